@@ -1,0 +1,12 @@
+pub mod Flat
+pub mod Stored
+pub mod Unique
+pub mod Test
+pub mod Over
+pub mod Replaced
+pub mod Placed
+pub mod Covering
+pub mod Without
+pub mod Cutting
+pub mod Runs
+pub mod Fewest
