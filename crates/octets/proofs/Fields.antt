@@ -1,17 +1,27 @@
 -- The laws of big-endian fields, over the field's length: what is put is got back, and what is got is put back.
 -- Assumes nothing.
 use mathlib.Core.Path.{_≡_, refl, ap, _∙_}
-use mathlib.Core.List.{List, [], _∷_, _++_}
+use mathlib.Core.List.{List, [], _∷_, _++_, append-assoc}
 use Prim.Native.Nat.{ℕ, zero, suc, _+_, _*_, _/_, _%_, _^_, _≤_, _<_}
-use native.Mathlib.Nat.{mul-assoc, add-mul, pow-suc, mod-lt, mod-eq-of-lt, div-add-mod', div-lt-iff-lt-mul, mul-add-div-right, mul-add-mod-self-right, mul-le-mul-right}
+use native.Mathlib.Nat.{mul-suc, mul-assoc, add-mul, pow-suc, mod-lt, mod-eq-of-lt, div-add-mod', div-lt-iff-lt-mul, mul-add-div-right, mul-add-mod-self-right, mul-le-mul-right}
 use native.Mathlib.Omega.{arith}
 use lib.ListN.{length, getD, take, drop, length-append}
-use Rattle.octets.specs.Octets.{field, number, AllOctets}
+use Rattle.octets.specs.Octets.{field, fields, number, AllOctets}
 
 -- a field of f octets is f octets long
 pub length-field : (f v : ℕ) → length (field f v) ≡ f
 length-field zero v = refl
 length-field (suc f) v = rw (length-append (field f (v / 256)), length-field f (v / 256)) (omega arith)
+
+-- the octets of n numbers, f octets each, are f times n
+pub length-fields : (f : ℕ) (vs : List ℕ) → length (fields f vs) ≡ f * length vs
+length-fields f [] = omega arith
+length-fields f (v ∷ vs) = rw (length-append (field f v), length-field f v, length-fields f vs, mul-suc) (omega arith)
+
+-- the octets of two lists joined
+pub fields-append : (f : ℕ) (vs ws : List ℕ) → fields f (vs ++ ws) ≡ fields f vs ++ fields f ws
+fields-append f [] ws = refl
+fields-append f (v ∷ vs) ws = rw (append-assoc, fields-append f vs ws)
 
 -- octets joined are octets
 pub octets-append : (xs ys : List ℕ) → AllOctets xs → AllOctets ys → AllOctets (xs ++ ys)
@@ -22,6 +32,10 @@ octets-append (x ∷ xs) ys (h, a) b = (h, octets-append xs ys a b)
 pub octets-field : (f v : ℕ) → AllOctets (field f v)
 octets-field zero v = tt
 octets-field (suc f) v = octets-append (field f (v / 256)) (v % 256 ∷ []) (octets-field f (v / 256)) (mod-lt v (omega arith), tt)
+
+pub octets-fields : (f : ℕ) (vs : List ℕ) → AllOctets (fields f vs)
+octets-fields f [] = tt
+octets-fields f (v ∷ vs) = octets-append (field f v) (fields f vs) (octets-field f v) (octets-fields f vs)
 
 -- one octet more at the end
 pub number-snoc : (os : List ℕ) (o : ℕ) → number (os ++ (o ∷ [])) ≡ number os * 256 + o

@@ -1,8 +1,8 @@
 // Inner: not part of the public interface. These have a `requires`, which their callers show.
 ghost use mathlib.Core.Path.{_≡_};
-ghost use Prim.Native.Nat.{_+_, _≤_};
+ghost use Prim.Native.Nat.{_+_, _*_, _≤_};
 ghost use lib.ListN.{length, take, drop};
-ghost use Rattle.octets.specs.Octets.{field, number, withOctets};
+ghost use Rattle.octets.specs.Octets.{field, fields, number, withOctets};
 
 fn wide(octet: u8) -> u64
     ensures { λ r. ⌜ r ≡ octet ⌝ }
@@ -36,4 +36,18 @@ pub fn get(buf: &[u8], at: usize, f: usize) -> u64
         i += 1;
     }
     v
+}
+
+// The n numbers of the list from `from` on go into the buffer from `at` on, f octets each.
+pub fn put_all(buf: &mut [u8], at: usize, f: usize, list: &[u64], from: usize, n: usize)
+    requires { ⌜ (at + f * n ≤ length (now buf)) × (from + n ≤ length (now list)) ⌝ }
+    ensures { λ _. ⌜ now (buf .exit) ≡ withOctets (now (buf .entry)) at (fields f (take n (drop from (now (list .entry))))) ⌝ }
+{
+    let mut place = at;
+    let mut i = 0;
+    while i < n {
+        put(buf, place, f, list[from + i]);
+        place += f;
+        i += 1;
+    }
 }
