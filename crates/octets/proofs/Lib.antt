@@ -1,0 +1,4 @@
+pub mod Fields
+pub mod Over
+pub mod Turns
+pub mod Largest
