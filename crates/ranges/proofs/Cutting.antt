@@ -5,6 +5,8 @@ use Prim.Native.Nat.{ℕ, suc, _+_, _*_, _-_, _≤_, _<_}
 use native.Mathlib.Omega.{arith}
 use lib.ListN.{length, getD}
 use borrow.Author.Tests.{lt-ltb, le-ltb}
+use lib.Dec.{ltb}
+use mathlib.Core.Bool.{Bool, true, false}
 use Rattle.ranges.specs.Range.{Range, range, Coalesced}
 use Rattle.ranges.specs.Store.{counted, stored, capacity}
 use Rattle.ranges.specs.Without.{part, without}
@@ -60,3 +62,18 @@ module _ (xs : List ℕ) (n i j a b : ℕ) (run : Run xs n i j a b) where
       let o = run .some in
       let m = length-replaced xs n i j ps (omega arith) (run .inside) (run .room) in
       rw (w, lt-ltb (capacity xs) (length (replaced i j ps (counted xs n))) (omega arith)) (refl, refl)
+
+-- the answer of a cut tells whether there was room
+pub cut-told : (cap m : ℕ) (qs : List Range) → Left m ≡ cutAnswer cap qs → (ltb cap (length qs) ≡ false) × (m ≡ length qs)
+cut-told cap m qs e = go (ltb cap (length qs)) refl
+  where
+    go : (t : Bool) → ltb cap (length qs) ≡ t → (ltb cap (length qs) ≡ false) × (m ≡ length qs)
+    go true f = let w : Left m ≡ Full = e ∙ rw f in let z : _≡_ {A = ℕ} 0 1 = cc in absurd (omega arith)
+    go false f = let w : Left m ≡ Left (length qs) = e ∙ rw f in (f, cc)
+
+pub full-told : (cap : ℕ) (qs : List Range) → Full ≡ cutAnswer cap qs → ltb cap (length qs) ≡ true
+full-told cap qs e = go (ltb cap (length qs)) refl
+  where
+    go : (t : Bool) → ltb cap (length qs) ≡ t → ltb cap (length qs) ≡ true
+    go true f = f
+    go false f = let w : Full ≡ Left (length qs) = e ∙ rw f in let z : _≡_ {A = ℕ} 0 1 = cc in absurd (omega arith)

@@ -10,3 +10,4 @@ pub mod Without
 pub mod Cutting
 pub mod Runs
 pub mod Fewest
+pub mod Good

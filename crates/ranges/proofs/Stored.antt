@@ -3,7 +3,7 @@ use mathlib.Core.Path.{_≡_, refl, sym, ap, ap₂, _∙_}
 use mathlib.Core.List.{List, [], _∷_, _++_, append-assoc}
 use Prim.Native.Nat.{ℕ, zero, suc, _+_, _*_, _-_, _≤_, _<_}
 use native.Mathlib.Omega.{arith}
-use lib.ListN.{length, getD, take, drop, set, replicate, length-append, length-drop, length-replicate}
+use lib.ListN.{length, getD, take, drop, set, replicate, length-append, length-drop, length-replicate, take-append-drop}
 use native.Mathlib.Numerals.{add-one}
 use lib.Seq.{sets, sets-eq, drop-append-le, drop-append-add, drop-drop, take-at, drop-nil}
 use Rattle.ranges.specs.Range.{Range, range}
@@ -84,3 +84,9 @@ drop-stored p rs n xs h k =
     ∙ drop-append-add (replicate (2 * n) 0) (drop (2 * n) xs) w
     ∙ drop-drop w (2 * n) xs
     ∙ ap (λ (u : ℕ). drop u xs) e₃
+
+-- a list stored where it is
+pub stored-same : (xs : List ℕ) (n : ℕ) → 2 * n ≤ length xs → stored (counted xs n) n xs ≡ xs
+stored-same xs n h =
+    let m = length-counted xs n h in
+    stored-grown (counted xs n) n xs (omega arith) ∙ rw (flat-counted xs n h, m) (take-append-drop (2 * n) xs)

@@ -1,6 +1,6 @@
--- The test `isCoalesced` decides `Coalesced`.
+-- Tests joined by and and or; the test `isCoalesced` decides `Coalesced`.
 use mathlib.Core.Path.{_≡_, refl, sym, ap, _∙_}
-use mathlib.Core.Bool.{Bool, true, false, _&&_, true≢false}
+use mathlib.Core.Bool.{Bool, true, false, _&&_, _||_, true≢false}
 use mathlib.Core.List.{List, [], _∷_}
 use Prim.Native.Nat.{ℕ, suc, _≤_, _<_}
 use borrow.Author.Tests.{le-leb, lt-ltb, leb-true, ltb-true}
@@ -9,6 +9,18 @@ use Rattle.ranges.specs.Range.{Range, Above, Coalesced, isAbove, isCoale
 pub and-true : (a b : Bool) → (a && b) ≡ true → (a ≡ true) × (b ≡ true)
 and-true true b e = (refl, e)
 and-true false b e = absurd (true≢false (sym e))
+
+pub or-false : (a b : Bool) → (a || b) ≡ false → (a ≡ false) × (b ≡ false)
+or-false true b e = absurd (true≢false e)
+or-false false b e = (refl, e)
+
+pub or-none : (a : Bool) → (a || false) ≡ a
+or-none true = refl
+or-none false = refl
+
+pub and-none : (a : Bool) → (a && false) ≡ false
+and-none true = refl
+and-none false = refl
 
 pub above-of : (b : ℕ) (rs : List Range) → isAbove b rs ≡ true → Above b rs
 above-of b [] e = tt
@@ -23,3 +35,6 @@ of-above b (r ∷ rs) a = rw (le-leb b (r .start) (a .0), lt-ltb (r .start) (r .
 
 pub coalesced-of : (rs : List Range) → isCoalesced rs ≡ true → Coalesced rs
 coalesced-of rs e = above-of 0 rs e
+
+pub of-coalesced : (rs : List Range) → Coalesced rs → isCoalesced rs ≡ true
+of-coalesced rs s = of-above 0 rs s

@@ -11,10 +11,11 @@ use lib.ListN.{length, getD, take, drop, drop-of-length-le}
 use lib.Seq.{drop-cons, drop-drop, getD-drop}
 use lib.Dec.{leb, ltb}
 use borrow.Author.Tests.{lt-ltb, le-ltb, ltb-true, ltb-false, leb-true, leb-false}
-use Rattle.ranges.specs.Range.{Range, range, Above, Coalesced, In, Covers}
+use Rattle.ranges.specs.Range.{Range, range, Above, Coalesced, In, Covers, some, shares}
 use Rattle.ranges.specs.Without.{part, pieces, without}
 use Rattle.ranges.specs.Inner.Moves.{replaced}
 use Rattle.ranges.specs.Inner.Cut.{place, past, from, first, behind}
+use Rattle.ranges.proofs.Test.{or-false}
 use Rattle.ranges.proofs.Covering.{covers-append, append-covers, above-less}
 
 -- a range as a list
@@ -98,6 +99,21 @@ module _ (a b : ℕ) (lt : a < b) where
   without-behind d (r ∷ rs) s h =
       rw (pieces-behind r (s .1) (omega arith)) (ap (λ (l : List Range). r ∷ l) (without-behind (suc (r .end)) rs (s .2) (omega arith)))
 
+  -- where no range shares an offset with (a, b), nothing leaves
+  pub without-none : (d : ℕ) (rs : List Range) → Above d rs → some (shares a b) rs ≡ false → without a b rs ≡ rs
+  without-none d [] s e = refl
+  without-none d (r ∷ rs) s e = go (ltb (r .start) b) refl (without-none (suc (r .end)) rs (s .2))
+    where
+      here : shares a b r ≡ false
+      here = or-false (shares a b r) (some (shares a b) rs) e .0
+
+      keep : pieces a b r ≡ r ∷ [] → (some (shares a b) rs ≡ false → without a b rs ≡ rs) → without a b (r ∷ rs) ≡ r ∷ rs
+      keep p i = rw p (ap (λ (l : List Range). r ∷ l) (i (or-false (shares a b r) (some (shares a b) rs) e .1)))
+
+      go : (t : Bool) → ltb (r .start) b ≡ t → (some (shares a b) rs ≡ false → without a b rs ≡ rs) → without a b (r ∷ rs) ≡ r ∷ rs
+      go true f i = keep (pieces-before r (s .1) (ltb-false a (r .end) (rw f at here))) i
+      go false f i = keep (pieces-behind r (s .1) (ltb-false (r .start) b f)) i
+
   -- ranges that end at a or before stay in front
   pub without-front : (d : ℕ) (rs : List Range) → Above d rs → without a b rs ≡ take (first a rs) rs ++ without a b (drop (first a rs) rs)
   without-front d [] s = refl
@@ -141,7 +157,7 @@ module _ (a b : ℕ) (lt : a < b) where
           ∙ sym (append-assoc left right rest))
 
 -- the range at the place of a test passes it
-place-at : (t : Range → Bool) (rs : List Range) → place t rs < length rs → t (getD rs (place t rs) (range 0 0)) ≡ true
+pub place-at : (t : Range → Bool) (rs : List Range) → place t rs < length rs → t (getD rs (place t rs) (range 0 0)) ≡ true
 place-at t [] h = absurd (omega arith)
 place-at t (r ∷ rs) h = go (t r) refl (place-at t rs)
   where

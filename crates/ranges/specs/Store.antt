@@ -33,6 +33,10 @@ abbrev pub limitOf : Width → ℕ
 limitOf Wide = 18446744073709551615
 limitOf Narrow = 4294967295
 
+-- 4: either number is above top, the width's limit.
+abbrev pub eitherAbove : ℕ → ℕ → ℕ → Bool
+eitherAbove top a b = ltb top a || ltb top b
+
 -- A number of the list is above top.
 abbrev pub anyAbove : ℕ → List ℕ → Bool
 anyAbove top [] = false

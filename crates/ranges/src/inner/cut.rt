@@ -20,6 +20,7 @@ pub enum Remains {
 pub fn first_past(list: &[u64], n: usize, a: u64) -> usize
     requires { ⌜ 2 * n ≤ length (now list) ⌝ }
     ensures { λ r. ⌜ r ≡ first a (counted (now (list .entry)) n) ⌝ }
+    ensures { λ r. ⌜ r ≤ n ⌝ }
 {
     let mut i = 0;
     while i < n {
@@ -35,6 +36,7 @@ pub fn first_past(list: &[u64], n: usize, a: u64) -> usize
 pub fn first_from(list: &[u64], n: usize, i: usize, b: u64) -> usize
     requires { ⌜ (i ≤ n) × (2 * n ≤ length (now list)) ⌝ }
     ensures { λ r. ⌜ r ≡ behind i b (counted (now (list .entry)) n) ⌝ }
+    ensures { λ r. ⌜ (i ≤ r) × (r ≤ n) ⌝ }
 {
     let mut j = i;
     while j < n {

@@ -11,7 +11,7 @@ use Rattle.ranges.proofs.inner.cut.first_from.Statement.{statement}
 use Rattle.ranges.proofs.inner.cut.first_from.Tie as tie
 
 abbrev Inv-loop : tie.InvT-loop
-Inv-loop list n i b j₀ j = (j ≤ n) × (j + place (from b) (drop j (counted list n)) ≡ i + place (from b) (drop i (counted list n)))
+Inv-loop list n i b j₀ j = (i ≤ j) × (j ≤ n) × (j + place (from b) (drop j (counted list n)) ≡ i + place (from b) (drop i (counted list n)))
 
 abbrev μ-loop : tie.MeasureT-loop
 μ-loop list n i b j₀ j = n - j
@@ -33,7 +33,7 @@ returns c =
     let l = c .before .before .before .loop in
     let a = c .before .before .before .before .args in
     let e = place-here (from (a .b)) (a .list .now) (a .n) (omega arith) (l .j) (omega arith) (le-leb _ _ (c .if1 .taken)) in
-    omega (arith, l .inv .1)
+    (omega (arith, l .inv .2), (omega arith, omega arith))
 
 add-j : tie.Need-add-j Inv-loop μ-loop
 add-j c = search needs
@@ -46,7 +46,7 @@ loop-again c =
     let l = c .before .before .before .loop in
     let a = c .before .before .before .before .args in
     let e = place-next (from (a .b)) (a .list .now) (a .n) (omega arith) (l .j) (omega arith) (lt-leb _ _ (c .if1 .left)) in
-    (omega arith, omega (arith, l .inv .1))
+    (omega arith, omega arith, omega (arith, l .inv .2))
 
 returns-2 : tie.Need-returns-2 Inv-loop μ-loop
 returns-2 c =
@@ -54,7 +54,7 @@ returns-2 c =
     let a = c .before .before .args in
     let e = place-none (from (a .b)) (a .list .now) (a .n) (omega arith) in
     let k : l .j ≡ a .n = omega arith in
-    omega (arith, rw k at (l .inv .1))
+    (omega (arith, rw k at (l .inv .2)), (omega arith, omega arith))
 
 pub first-from-spec : {M : Type 1} → statement M
 first-from-spec =

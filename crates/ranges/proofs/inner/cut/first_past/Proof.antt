@@ -36,7 +36,7 @@ returns c =
     let l = c .before .before .before .loop in
     let a = c .before .before .before .before .args in
     let e = place-here (past (a .a)) (a .list .now) (a .n) (omega arith) (l .i) (omega arith) (lt-ltb _ _ (c .if1 .taken)) in
-    omega (arith, l .inv .1)
+    (omega (arith, l .inv .1), omega arith)
 
 add-i : tie.Need-add-i Inv-loop μ-loop
 add-i c = search needs
@@ -57,7 +57,7 @@ returns-2 c =
     let a = c .before .before .args in
     let e = place-none (past (a .a)) (a .list .now) (a .n) (omega arith) in
     let k : l .i ≡ a .n = omega arith in
-    omega (arith, rw k at (l .inv .1))
+    (omega (arith, rw k at (l .inv .1)), omega arith)
 
 pub first-past-spec : {M : Type 1} → statement M
 first-past-spec =

@@ -1,0 +1,3 @@
+pub mod Found
+pub mod Answers
+pub mod Meaning

@@ -1,0 +1,34 @@
+-- add appends, without looking for overlap (document 01, "Ranges and the store").
+use Prim.Native.Nat.{ℕ, _+_}
+use mathlib.Core.Bool.{cond}
+use mathlib.Core.List.{List, [], _∷_, _++_}
+use lib.Dec.{ltb, eqb}
+use Rattle.ranges.specs.Range.{range}
+use Rattle.ranges.specs.Store.{counted, capacity, limitOf, isBadStore, eitherAbove, stored}
+use Rattle.ranges.specs.Outcome.{Outcome, accepted, lent, storeFull, emptySegment, startLargerThanEnd, largeFileSegmentNotSupported, badStore}
+use Rattle.lost_segments.specs.declared.Store.{Store}
+use Rattle.lost_segments.specs.declared.add.AddAnswer.{AddAnswer}
+use Rattle.lost_segments.specs.declared.add.AddAnswer.the-variants as answer
+
+-- The number and the values of each case of the answer; an accepted add hands back the new count.
+abbrev pub addCase : AddAnswer → Outcome
+addCase (answer.Added count) = accepted (count ∷ [])
+addCase answer.BadStore = badStore
+addCase answer.EmptySegment = emptySegment
+addCase (answer.StartLargerThanEnd s e) = startLargerThanEnd s e
+addCase answer.LargeFileSegmentNotSupported = largeFileSegmentNotSupported
+addCase answer.StoreFull = storeFull
+
+-- Checks: 10, 2, 3, 4 (narrow), 1. Full means count equals capacity.
+abbrev pub addOutcome : List ℕ → Store → ℕ → ℕ → Outcome
+addOutcome xs st s e =
+    cond (isBadStore xs (st .count) (limitOf (st .width))) badStore
+    (cond (eqb s e) emptySegment
+    (cond (ltb e s) (startLargerThanEnd s e)
+    (cond (eitherAbove (limitOf (st .width)) s e) largeFileSegmentNotSupported
+    (cond (eqb (st .count) (capacity xs)) storeFull
+    (accepted ((st .count + 1) ∷ []))))))
+
+-- The list afterwards: the range stands behind the counted ones.
+abbrev pub addList : List ℕ → Store → ℕ → ℕ → List ℕ
+addList xs st s e = lent (addOutcome xs st s e) (stored (counted xs (st .count) ++ (range s e ∷ [])) (st .count) xs) xs

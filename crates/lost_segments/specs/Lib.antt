@@ -1,0 +1,6 @@
+pub mod Add
+pub mod Remove
+pub mod Coalesce
+pub mod SegmentInStore
+pub mod WriteSegmentsToBytes
+pub mod Inner

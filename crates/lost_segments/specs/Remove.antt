@@ -1,0 +1,47 @@
+-- remove takes the offsets of (a, b) out of a coalesced list (document 01, "Ranges and the store").
+use Prim.Native.Nat.{ℕ}
+use mathlib.Core.Bool.{cond}
+use mathlib.Core.List.{List, [], _∷_}
+use lib.ListN.{length}
+use lib.Dec.{ltb, eqb}
+use Rattle.ranges.specs.Range.{Range, some, inside, shares, isCoalesced}
+use Rattle.ranges.specs.Without.{without}
+use Rattle.ranges.specs.Store.{counted, capacity, limitOf, isBadStore, eitherAbove, stored}
+use Rattle.ranges.specs.Outcome.{Outcome, accepted, lent, storeFull, emptySegment, startLargerThanEnd, largeFileSegmentNotSupported, invalidSegmentBoundary, notCoalesced, badStore}
+use Rattle.lost_segments.specs.declared.Store.{Store}
+use Rattle.lost_segments.specs.declared.remove.RemoveAnswer.{RemoveAnswer}
+use Rattle.lost_segments.specs.declared.remove.RemoveAnswer.the-variants as answer
+
+-- The number and the values of each case of the answer: 1 for true, with the new count, and 0 for false.
+abbrev pub removeCase : RemoveAnswer → Outcome
+removeCase (answer.Removed count) = accepted (1 ∷ count ∷ [])
+removeCase answer.NotStored = accepted (0 ∷ [])
+removeCase answer.BadStore = badStore
+removeCase answer.LargeFileSegmentNotSupported = largeFileSegmentNotSupported
+removeCase answer.EmptySegment = emptySegment
+removeCase (answer.StartLargerThanEnd s e) = startLargerThanEnd s e
+removeCase answer.NotCoalesced = notCoalesced
+removeCase answer.StoreFull = storeFull
+removeCase (answer.InvalidSegmentBoundary s e) = invalidSegmentBoundary s e
+
+-- On the coalesced list rs, with room for cap. Inside one range, the answer is true and exactly those offsets leave; 1 if more
+-- ranges are left than there is room for, which only a split can bring about. Sharing an offset with some range but inside none
+-- is 5. Sharing no offset is false.
+abbrev pub removeFrom : ℕ → List Range → ℕ → ℕ → Outcome
+removeFrom cap rs a b =
+    cond (some (inside a b) rs)
+    (cond (ltb cap (length (without a b rs))) storeFull (accepted (1 ∷ length (without a b rs) ∷ [])))
+    (cond (some (shares a b) rs) (invalidSegmentBoundary a b) (accepted (0 ∷ [])))
+
+-- Checks: 10, then narrow 4 first, 2, 3, 8; then the coalesced list.
+abbrev pub removeOutcome : List ℕ → Store → ℕ → ℕ → Outcome
+removeOutcome xs st a b =
+    cond (isBadStore xs (st .count) (limitOf (st .width))) badStore
+    (cond (eitherAbove (limitOf (st .width)) a b) largeFileSegmentNotSupported
+    (cond (eqb a b) emptySegment
+    (cond (ltb b a) (startLargerThanEnd a b)
+    (cond (isCoalesced (counted xs (st .count))) (removeFrom (capacity xs) (counted xs (st .count)) a b) notCoalesced))))
+
+-- The list afterwards: an accepted call leaves the list without the offsets of (a, b), whether it had any of them or none.
+abbrev pub removeList : List ℕ → Store → ℕ → ℕ → List ℕ
+removeList xs st a b = lent (removeOutcome xs st a b) (stored (without a b (counted xs (st .count))) (st .count) xs) xs

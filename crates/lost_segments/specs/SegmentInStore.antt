@@ -1,0 +1,22 @@
+-- segment_in_store (a, b) is yes exactly if some stored (s, e) has a at least s and b at most e. (a, b) is not checked: reversed
+-- pairs may say yes. Only 10 refuses (document 01, "Ranges and the store").
+use Prim.Native.Nat.{ℕ}
+use mathlib.Core.Bool.{cond}
+use mathlib.Core.List.{List, [], _∷_}
+use Rattle.ranges.specs.Range.{some, inside}
+use Rattle.ranges.specs.Store.{counted, limitOf, isBadStore}
+use Rattle.ranges.specs.Outcome.{Outcome, accepted, badStore}
+use Rattle.lost_segments.specs.declared.Store.{Store}
+use Rattle.lost_segments.specs.declared.segment_in_store.InStoreAnswer.{InStoreAnswer}
+use Rattle.lost_segments.specs.declared.segment_in_store.InStoreAnswer.the-variants as answer
+
+-- The number and the values of each case of the answer: 1 for yes and 0 for no.
+abbrev pub inStoreCase : InStoreAnswer → Outcome
+inStoreCase answer.Yes = accepted (1 ∷ [])
+inStoreCase answer.No = accepted (0 ∷ [])
+inStoreCase answer.BadStore = badStore
+
+abbrev pub inStoreOutcome : List ℕ → Store → ℕ → ℕ → Outcome
+inStoreOutcome xs st a b =
+    cond (isBadStore xs (st .count) (limitOf (st .width))) badStore
+    (cond (some (inside a b) (counted xs (st .count))) (accepted (1 ∷ [])) (accepted (0 ∷ [])))

@@ -1,0 +1,86 @@
+// coalesce: the maximal runs of the counted pairs, by a sort where they lie and one pass.
+ghost use mathlib.Core.Path.{_≡_};
+ghost use Prim.Native.Nat.{_+_, _*_, _≤_};
+ghost use lib.ListN.{length};
+ghost use Rattle.ranges.specs.Range.{range, Coalesced};
+ghost use Rattle.ranges.specs.Store.{counted, stored};
+ghost use Rattle.pair_sort.specs.Sorted.{Ascending};
+ghost use Rattle.lost_segments.specs.Coalesce.{coalesceCase, coalesceOutcome, coalesceList, join, maximalRuns};
+ghost use Rattle.lost_segments.specs.Inner.{Low};
+use crate::Store;
+use pair_sort::inner::sort_pairs;
+use ranges::inner::moves::tidy;
+
+pub enum CoalesceAnswer {
+    Coalesced(usize),
+    BadStore,
+}
+
+// (s, e) joins the last of the first m ranges, or goes behind it.
+fn put_last(list: &mut [u64], m: usize, s: u64, e: u64) -> usize
+    requires { ⌜ 2 * m + 2 ≤ length (now list) ⌝ }
+    requires { ⌜ Coalesced (counted (now list) m) ⌝ }
+    requires { ⌜ Low s (counted (now list) m) ⌝ }
+    ensures { λ r. ⌜ r ≡ length (join (range s e) (counted (now (list .entry)) m)) ⌝ }
+    ensures { λ r. ⌜ now (list .exit) ≡ stored (join (range s e) (counted (now (list .entry)) m)) m (now (list .entry)) ⌝ }
+{
+    if e <= s {
+        return m;
+    }
+    if 0 < m {
+        let l = m - 1;
+        let h = list[2 * l + 1];
+        if s <= h {
+            if h < e {
+                list[2 * l + 1] = e;
+            }
+            return m;
+        }
+    }
+    list[2 * m] = s;
+    list[2 * m + 1] = e;
+    m + 1
+}
+
+// The pass over n pairs whose starts ascend.
+fn merge_ascending(list: &mut [u64], n: usize) -> usize
+    requires { ⌜ 2 * n ≤ length (now list) ⌝ }
+    requires { ⌜ Ascending (now list) n ⌝ }
+    ensures { λ r. ⌜ r ≡ length (maximalRuns (counted (now (list .entry)) n)) ⌝ }
+    ensures { λ r. ⌜ now (list .exit) ≡ stored (maximalRuns (counted (now (list .entry)) n)) n (now (list .entry)) ⌝ }
+{
+    let mut m = 0;
+    let mut k = 0;
+    while k < n {
+        let s = list[2 * k];
+        let e = list[2 * k + 1];
+        m = put_last(list, m, s, e);
+        k += 1;
+    }
+    tidy(list, m, n);
+    m
+}
+
+fn coalesce_counted(list: &mut [u64], n: usize) -> usize
+    requires { ⌜ 2 * n ≤ length (now list) ⌝ }
+    ensures { λ r. ⌜ r ≡ length (maximalRuns (counted (now (list .entry)) n)) ⌝ }
+    ensures { λ r. ⌜ now (list .exit) ≡ stored (maximalRuns (counted (now (list .entry)) n)) n (now (list .entry)) ⌝ }
+{
+    sort_pairs(list, n);
+    merge_ascending(list, n)
+}
+
+impl Store {
+    pub fn coalesce(self, list: &mut [u64]) -> CoalesceAnswer
+        ensures { λ r. ⌜ coalesceCase r ≡ coalesceOutcome (now (list .entry)) self ⌝ }
+        ensures { λ _. ⌜ now (list .exit) ≡ coalesceList (now (list .entry)) self ⌝ }
+    {
+        let count = self.count;
+        let width = self.width;
+        let top = width.limit();
+        if ranges::bad_store(list, count, top) {
+            return CoalesceAnswer::BadStore;
+        }
+        CoalesceAnswer::Coalesced(coalesce_counted(list, count))
+    }
+}

@@ -1,0 +1,85 @@
+// remove: the offsets of a range leave a coalesced list.
+ghost use mathlib.Core.Path.{_≡_};
+ghost use Prim.Native.Nat.{_*_, _<_, _≤_};
+ghost use lib.ListN.{length};
+ghost use Rattle.ranges.specs.Range.{Coalesced};
+ghost use Rattle.ranges.specs.Without.{without};
+ghost use Rattle.ranges.specs.Store.{counted, capacity, stored};
+ghost use Rattle.ranges.specs.Outcome.{lent};
+ghost use Rattle.lost_segments.specs.Remove.{removeCase, removeFrom, removeOutcome, removeList};
+use crate::Store;
+use ranges::inner::checks::is_coalesced;
+use ranges::inner::cut::Remains;
+use ranges::inner::cut::cut;
+use ranges::inner::cut::first_past;
+
+pub enum RemoveAnswer {
+    Removed(usize),
+    NotStored,
+    BadStore,
+    LargeFileSegmentNotSupported,
+    EmptySegment,
+    StartLargerThanEnd(u64, u64),
+    NotCoalesced,
+    StoreFull,
+    InvalidSegmentBoundary(u64, u64),
+}
+
+// On a coalesced list: the first range that ends above a is the only one that (a, b) can lie inside.
+fn remove_coalesced(list: &mut [u64], count: usize, a: u64, b: u64) -> RemoveAnswer
+    requires { ⌜ (2 * count ≤ length (now list)) × ((length (now list) ≤ 8192) × (a < b)) ⌝ }
+    requires { ⌜ Coalesced (counted (now list) count) ⌝ }
+    ensures { λ r. ⌜ removeCase r ≡ removeFrom (capacity (now (list .entry))) (counted (now (list .entry)) count) a b ⌝ }
+    ensures { λ r. ⌜ now (list .exit) ≡ lent (removeCase r) (stored (without a b (counted (now (list .entry)) count)) count (now (list .entry))) (now (list .entry)) ⌝ }
+{
+    let i = first_past(list, count, a);
+    if i == count {
+        return RemoveAnswer::NotStored;
+    }
+    let s = list[2 * i];
+    let e = list[2 * i + 1];
+    if b <= s {
+        return RemoveAnswer::NotStored;
+    }
+    if a < s {
+        return RemoveAnswer::InvalidSegmentBoundary(a, b);
+    }
+    if e < b {
+        return RemoveAnswer::InvalidSegmentBoundary(a, b);
+    }
+    let left = cut(list, count, i, i + 1, a, b);
+    match left {
+        Remains::Left(m) => RemoveAnswer::Removed(m),
+        Remains::Full => RemoveAnswer::StoreFull,
+    }
+}
+
+impl Store {
+    pub fn remove(self, list: &mut [u64], a: u64, b: u64) -> RemoveAnswer
+        ensures { λ r. ⌜ removeCase r ≡ removeOutcome (now (list .entry)) self a b ⌝ }
+        ensures { λ _. ⌜ now (list .exit) ≡ removeList (now (list .entry)) self a b ⌝ }
+    {
+        let count = self.count;
+        let width = self.width;
+        let top = width.limit();
+        if ranges::bad_store(list, count, top) {
+            return RemoveAnswer::BadStore;
+        }
+        if top < a {
+            return RemoveAnswer::LargeFileSegmentNotSupported;
+        }
+        if top < b {
+            return RemoveAnswer::LargeFileSegmentNotSupported;
+        }
+        if a == b {
+            return RemoveAnswer::EmptySegment;
+        }
+        if b < a {
+            return RemoveAnswer::StartLargerThanEnd(a, b);
+        }
+        if is_coalesced(list, count) {
+            return remove_coalesced(list, count, a, b);
+        }
+        RemoveAnswer::NotCoalesced
+    }
+}

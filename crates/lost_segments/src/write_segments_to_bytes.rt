@@ -1,0 +1,40 @@
+// write_segments_to_bytes: the counted pairs as the segment requests of a NAK PDU.
+ghost use mathlib.Core.Path.{_≡_};
+ghost use Rattle.lost_segments.specs.WriteSegmentsToBytes.{writeCase, writeOutcome, writeBuffer};
+use crate::Store;
+use octets::LargeFileFlag;
+use octets::inner::put_all;
+use ranges::inner::checks::any_above;
+
+pub enum WriteAnswer {
+    Written(usize),
+    BadStore,
+    BufferSizeMissmatch(usize, usize),
+    LargeSegmentForNormalFileSize,
+}
+
+impl Store {
+    pub fn write_segments_to_bytes(self, list: &[u64], buf: &mut [u8], flag: LargeFileFlag) -> WriteAnswer
+        ensures { λ r. ⌜ writeCase r ≡ writeOutcome (now (list .entry)) self flag (now (buf .entry)) ⌝ }
+        ensures { λ _. ⌜ now (buf .exit) ≡ writeBuffer (now (list .entry)) self flag (now (buf .entry)) ⌝ }
+    {
+        let count = self.count;
+        let width = self.width;
+        let top = width.limit();
+        if ranges::bad_store(list, count, top) {
+            return WriteAnswer::BadStore;
+        }
+        let f = flag.field_length();
+        let needed = count * (2 * f);
+        let given = buf.len();
+        if given != needed {
+            return WriteAnswer::BufferSizeMissmatch(needed, given);
+        }
+        let largest = flag.largest();
+        if any_above(list, 2 * count, largest) {
+            return WriteAnswer::LargeSegmentForNormalFileSize;
+        }
+        put_all(buf, 0, f, list, 0, 2 * count);
+        WriteAnswer::Written(needed)
+    }
+}
