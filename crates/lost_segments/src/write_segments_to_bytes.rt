@@ -14,7 +14,12 @@ pub enum WriteAnswer {
 }
 
 impl Store {
-    pub fn write_segments_to_bytes(self, list: &[u64], buf: &mut [u8], flag: LargeFileFlag) -> WriteAnswer
+    pub fn write_segments_to_bytes(
+        self,
+        list: &[u64],
+        buf: &mut [u8],
+        flag: LargeFileFlag,
+    ) -> WriteAnswer
         ensures { λ r. ⌜ writeCase r ≡ writeOutcome (now (list .entry)) self flag (now (buf .entry)) ⌝ }
         ensures { λ _. ⌜ now (buf .exit) ≡ writeBuffer (now (list .entry)) self flag (now (buf .entry)) ⌝ }
     {

@@ -11,3 +11,4 @@ pub mod Cutting
 pub mod Runs
 pub mod Fewest
 pub mod Good
+pub mod Some

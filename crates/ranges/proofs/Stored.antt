@@ -1,14 +1,14 @@
 -- The laws of `stored`.
-use mathlib.Core.Path.{_≡_, refl, sym, ap, ap₂, _∙_}
-use mathlib.Core.List.{List, [], _∷_, _++_, append-assoc}
+use mathlib.Core.Path.{_≡_, sym, ap, ap₂, _∙_}
+use mathlib.Core.List.{List, [], _∷_, _++_}
 use Prim.Native.Nat.{ℕ, zero, suc, _+_, _*_, _-_, _≤_, _<_}
 use native.Mathlib.Omega.{arith}
-use lib.ListN.{length, getD, take, drop, set, replicate, length-append, length-drop, length-replicate, take-append-drop}
+use lib.ListN.{length, getD, take, drop, set, replicate, length-append, length-drop, length-replicate, take-append-drop, getD-replicate, List·getD-append}
 use native.Mathlib.Numerals.{add-one}
-use lib.Seq.{sets, sets-eq, drop-append-le, drop-append-add, drop-drop, take-at, drop-nil}
+use lib.Seq.{sets-eq, drop-append-le, drop-append-add, drop-drop, take-at, getD-append-add}
 use Rattle.ranges.specs.Range.{Range, range}
 use Rattle.ranges.specs.Store.{pairs, flat, counted, cleared, stored}
-use Rattle.ranges.proofs.Flat.{twice-suc, counted-suc, length-counted, flat-append, length-flat, pairs-flat, flat-counted}
+use Rattle.ranges.proofs.Flat.{length-counted, flat-append, length-flat, pairs-flat, flat-counted}
 
 -- what was stored is read back
 pub counted-stored : (rs : List Range) (n : ℕ) (xs : List ℕ) → counted (stored rs n xs) (length rs) ≡ rs
@@ -90,3 +90,17 @@ pub stored-same : (xs : List ℕ) (n : ℕ) → 2 * n ≤ length xs → stored (
 stored-same xs n h =
     let m = length-counted xs n h in
     stored-grown (counted xs n) n xs (omega arith) ∙ rw (flat-counted xs n h, m) (take-append-drop (2 * n) xs)
+
+-- slots from the new count up to the old count hold (0, 0)
+pub given-up : (rs : List Range) (n : ℕ) (xs : List ℕ) (i : ℕ) → 2 * length rs ≤ i → i < 2 * n → getD (stored rs n xs) i 0 ≡ 0
+given-up rs n xs i h k =
+    let z : ℕ = 2 * n - 2 * length rs in
+    let m : ℕ = i - 2 * length rs in
+    let f = length-flat rs in
+    let l = length-replicate {A = ℕ} z 0 in
+    let e : i ≡ length (flat rs) + m = omega arith in
+    ap (λ (l : List ℕ). getD l i 0) (stored-shrunk rs n xs (omega arith))
+    ∙ ap (λ (u : ℕ). getD (flat rs ++ (replicate z 0 ++ drop (2 * n) xs)) u 0) e
+    ∙ getD-append-add (flat rs) (replicate z 0 ++ drop (2 * n) xs) m 0
+    ∙ List·getD-append (replicate z 0) (drop (2 * n) xs) 0 m (omega arith)
+    ∙ getD-replicate z m 0 0 (omega arith)

@@ -1,7 +1,7 @@
 -- What `without a b rs` means: exactly the offsets of (a, b) leave, and a coalesced list stays coalesced. On a coalesced list only
 -- the ranges that share an offset with (a, b) change, and what is left of them is at most two ranges.
-use mathlib.Core.Path.{_≡_, refl, sym, ap, ap₂, _∙_}
-use mathlib.Core.Bool.{Bool, true, false, cond}
+use mathlib.Core.Path.{_≡_, refl, sym, ap, _∙_}
+use mathlib.Core.Bool.{Bool, true, false}
 use mathlib.Core.List.{List, [], _∷_, _++_, append-assoc, append-nil}
 use mathlib.Core.Logic.{_⊎_, inl, inr, ⊎-elim, _↔_}
 use Prim.Native.Nat.{ℕ, zero, suc, _+_, _-_, _≤_, _<_, min, max}
@@ -9,7 +9,7 @@ use native.Mathlib.Omega.{arith}
 use native.Mathlib.Decide.{decLt}
 use lib.ListN.{length, getD, take, drop, drop-of-length-le}
 use lib.Seq.{drop-cons, drop-drop, getD-drop}
-use lib.Dec.{leb, ltb}
+use lib.Dec.{ltb}
 use borrow.Author.Tests.{lt-ltb, le-ltb, ltb-true, ltb-false, leb-true, leb-false}
 use Rattle.ranges.specs.Range.{Range, range, Above, Coalesced, In, Covers, some, shares}
 use Rattle.ranges.specs.Without.{part, pieces, without}

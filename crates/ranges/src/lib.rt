@@ -4,8 +4,6 @@ ghost use Rattle.ranges.specs.Store.{limitOf, isBadStore};
 
 pub mod inner;
 
-
-
 pub enum Width {
     Wide,
     Narrow,

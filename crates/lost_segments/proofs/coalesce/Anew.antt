@@ -1,12 +1,12 @@
 -- The counted in another order have the same offsets, so they are coalesced to the same list.
 use mathlib.Core.Path.{_≡_, refl, sym, ap, _∙_}
-use mathlib.Core.List.{List, [], _∷_}
+use mathlib.Core.List.{List}
 use mathlib.Core.Logic.{_⊎_, inl, inr, ⊎-elim}
 use Prim.Native.Nat.{ℕ, zero, suc, _+_, _*_, _≤_, _<_}
 use native.Mathlib.Omega.{arith}
 use lib.ListN.{length, getD, drop, length-drop}
 use lib.Seq.{ext-getD, getD-drop}
-use Rattle.ranges.specs.Range.{Range, range, In, Covers}
+use Rattle.ranges.specs.Range.{Range, range, Covers}
 use Rattle.ranges.specs.Store.{counted, stored}
 use Rattle.ranges.proofs.Flat.{length-counted, getD-counted}
 use Rattle.ranges.proofs.Unique.{unique}

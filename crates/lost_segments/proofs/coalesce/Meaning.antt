@@ -1,4 +1,4 @@
--- `maximalRuns rs` is coalesced, and has exactly the offsets of rs.
+-- What coalesce leaves: a coalesced list with exactly the offsets of the pairs, so the list of the maximal runs of their union.
 use mathlib.Core.Path.{_≡_, refl}
 use mathlib.Core.Bool.{Bool, true, false}
 use mathlib.Core.List.{List, [], _∷_}
@@ -8,7 +8,10 @@ use native.Mathlib.Omega.{arith}
 use native.Mathlib.Decide.{decLt}
 use lib.Dec.{ltb}
 use borrow.Author.Tests.{ltb-true, ltb-false}
-use Rattle.ranges.specs.Range.{Range, Above, Coalesced, In, Covers}
+use Rattle.ranges.specs.Range.{Range, Above, Coalesced, In, Covers, Same}
+use Rattle.ranges.specs.Run.{RunsOf}
+use Rattle.ranges.proofs.Runs.{runs-of}
+use Rattle.ranges.proofs.Unique.{unique}
 use Rattle.ranges.proofs.Covering.{above-less}
 use Rattle.lost_segments.specs.Coalesce.{joined, absorb, insert, join, gather, maximalRuns}
 
@@ -105,3 +108,12 @@ runs-coalesced rs = gather-above [] rs tt
 pub runs-covers : (x : ℕ) (rs : List Range) → Covers x (maximalRuns rs) ↔ Covers x rs
 unfolding maximalRuns
 runs-covers x rs = let i = gather-covers x [] rs tt in (λ h. ⊎-elim absurd (λ g. g) (i .0 h), λ h. i .1 (inr h))
+
+-- so it is the list of the maximal runs of the union of the pairs, and the only coalesced list with these offsets
+pub runs-maximal : (rs : List Range) → RunsOf (λ x. Covers x rs) (maximalRuns rs)
+runs-maximal rs = runs-of (λ x. Covers x rs) (maximalRuns rs) (runs-coalesced rs) (λ x. runs-covers x rs)
+
+pub runs-only : (rs qs : List Range) → Coalesced qs → Same qs rs → qs ≡ maximalRuns rs
+runs-only rs qs s f =
+    unique qs (maximalRuns rs) s (runs-coalesced rs)
+    (λ x. (λ h. runs-covers x rs .1 (f x .0 h), λ h. f x .1 (runs-covers x rs .0 h)))

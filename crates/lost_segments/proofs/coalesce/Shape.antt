@@ -1,17 +1,13 @@
 -- How much a list grows by `join`, and what leaves it as it was.
-use mathlib.Core.Path.{_≡_, refl, _∙_}
+use mathlib.Core.Path.{_≡_, refl}
 use mathlib.Core.Bool.{Bool, true, false}
 use mathlib.Core.List.{List, [], _∷_}
-use Prim.Native.Nat.{ℕ, suc, _*_, _≤_}
+use Prim.Native.Nat.{ℕ, suc, _≤_}
 use native.Mathlib.Omega.{arith}
-use lib.ListN.{length, take-append-drop}
+use lib.ListN.{length}
 use lib.Dec.{ltb}
 use borrow.Author.Tests.{le-ltb}
 use Rattle.ranges.specs.Range.{Range, range}
-use Rattle.ranges.specs.Store.{counted, stored}
-use Rattle.ranges.proofs.Flat.{length-counted}
-use Rattle.ranges.proofs.Flat.{flat-counted}
-use Rattle.ranges.proofs.Stored.{stored-grown}
 use Rattle.lost_segments.specs.Coalesce.{joined, absorb, insert, join}
 
 absorb-length : (r : Range) (qs : List Range) → length (absorb r qs) ≤ suc (length qs)

@@ -1,16 +1,16 @@
 -- What `remove_coalesced` answers and leaves at each of its ends.
-use mathlib.Core.Path.{_≡_, refl, sym, ap, _∙_}
-use mathlib.Core.Bool.{Bool, true, false}
+use mathlib.Core.Path.{_≡_, sym, ap, _∙_}
+use mathlib.Core.Bool.{true, false}
 use mathlib.Core.List.{List, [], _∷_}
 use Prim.Native.Nat.{ℕ, _+_, _*_, _≤_, _<_}
 use native.Mathlib.Omega.{arith}
 use lib.ListN.{length, getD, List·getD-eq-default}
-use lib.Dec.{leb, ltb, leb·zero}
+use lib.Dec.{leb·zero}
 use borrow.Author.Tests.{lt-ltb, le-ltb, le-leb, lt-leb, ltb-true}
-use Rattle.ranges.specs.Range.{Range, range, Coalesced, some, inside, shares}
+use Rattle.ranges.specs.Range.{range, Coalesced, some, inside, shares}
 use Rattle.ranges.specs.Store.{counted, capacity, stored}
 use Rattle.ranges.specs.Without.{without}
-use Rattle.ranges.specs.Outcome.{Outcome, accepted, storeFull, invalidSegmentBoundary}
+use Rattle.ranges.specs.Outcome.{accepted, storeFull, invalidSegmentBoundary}
 use Rattle.ranges.specs.Inner.Cut.{past, first, behind, cutAnswer, cutList}
 use Rattle.ranges.specs.declared.inner.cut.Remains.the-variants.{Full, Left}
 use Rattle.ranges.proofs.Flat.{at, getD-counted, length-counted}

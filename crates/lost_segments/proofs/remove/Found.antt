@@ -1,14 +1,13 @@
 -- On a coalesced list, the first range that ends above a is the one that decides what remove answers.
-use mathlib.Core.Path.{_≡_, refl, sym, ap, _∙_}
-use mathlib.Core.Bool.{Bool, true, false, _&&_, _||_}
+use mathlib.Core.Path.{_≡_, refl}
+use mathlib.Core.Bool.{Bool, true, false}
 use mathlib.Core.List.{List, [], _∷_}
 use Prim.Native.Nat.{ℕ, zero, suc, _+_, _≤_, _<_}
 use native.Mathlib.Omega.{arith}
-use lib.ListN.{length, getD, drop, List·getD-eq-default}
-use lib.Seq.{drop-cons}
+use lib.ListN.{length, getD}
 use lib.Dec.{leb, ltb, leb·zero}
 use borrow.Author.Tests.{lt-ltb, le-ltb, le-leb, lt-leb, ltb-true, ltb-false}
-use Rattle.ranges.specs.Range.{Range, range, Above, Coalesced, some, inside, shares}
+use Rattle.ranges.specs.Range.{Range, range, Above, some, inside, shares}
 use Rattle.ranges.specs.Inner.Cut.{place, past, from, first, behind}
 use Rattle.ranges.proofs.Test.{or-none, and-none}
 

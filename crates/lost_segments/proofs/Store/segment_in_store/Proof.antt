@@ -1,7 +1,4 @@
-use native.Mathlib.Omega.{arith}
-use Prim.Native.Nat.{ℕ, suc, _+_, _*_, _-_, _≤_, _<_}
-use mathlib.Core.Path.{_≡_, refl, sym, ap, _∙_}
-use lib.ListN.{length, getD, take, drop, set}
+use mathlib.Core.Path.{sym, _∙_}
 use borrow.Author.Needs.{needs}
 use Rattle.ranges.proofs.Good.{good}
 use Rattle.lost_segments.proofs.Store.segment_in_store.Statement.{statement}

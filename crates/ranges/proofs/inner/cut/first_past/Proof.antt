@@ -1,8 +1,8 @@
 use borrow.Author.Needs.{needs}
 use native.Mathlib.Omega.{arith}
-use Prim.Native.Nat.{ℕ, suc, _+_, _*_, _-_, _≤_, _<_}
-use mathlib.Core.Path.{_≡_, refl, sym, ap, _∙_}
-use lib.ListN.{length, getD, take, drop, set}
+use Prim.Native.Nat.{_+_, _-_, _≤_}
+use mathlib.Core.Path.{_≡_}
+use lib.ListN.{drop}
 use borrow.Author.Tests.{lt-ltb, le-ltb}
 use Rattle.ranges.specs.Store.{counted}
 use Rattle.ranges.specs.Inner.Cut.{place, past}

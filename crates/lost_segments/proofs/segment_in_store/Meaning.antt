@@ -1,0 +1,34 @@
+-- segment_in_store says yes exactly if some stored (s, e) has a at least s and b at most e, whatever (a, b) is.
+use mathlib.Core.Path.{_≡_, refl, ap}
+use mathlib.Core.Bool.{Bool, true, false}
+use mathlib.Core.List.{List, [], _∷_, List·Memᴰ}
+use mathlib.Core.Logic.{_↔_}
+use Prim.Native.Nat.{ℕ, _≤_}
+use native.Mathlib.Omega.{arith}
+use lib.ListN.{getD}
+use Rattle.ranges.specs.Range.{Range, some, inside}
+use Rattle.ranges.specs.Store.{counted, limitOf, isBadStore}
+use Rattle.ranges.specs.Outcome.{Outcome, accepted}
+use Rattle.ranges.proofs.Some.{some-member, inside-true}
+use Rattle.lost_segments.specs.declared.Store.{Store}
+use Rattle.lost_segments.specs.SegmentInStore.{inStoreOutcome}
+
+-- some counted pair has a at least its start and b at most its end
+abbrev pub Held : ℕ → ℕ → List Range → Type 0
+Held a b rs = (r : Range) × List·Memᴰ r rs × (r .start ≤ a) × (b ≤ r .end)
+
+pub in-store-yes : (xs : List ℕ) (st : Store) (a b : ℕ) → isBadStore xs (st .count) (limitOf (st .width)) ≡ false
+    → (inStoreOutcome xs st a b ≡ accepted (1 ∷ [])) ↔ Held a b (counted xs (st .count))
+in-store-yes xs st a b e = (λ f. to (some (inside a b) rs) refl f, λ w. rw (e, some-member (inside a b) rs .1 (w .0, w .1, inside-true a b (w .0) .1 (w .2, w .3))))
+  where
+    rs : List Range
+    rs = counted xs (st .count)
+
+    to : (t : Bool) → some (inside a b) rs ≡ t → inStoreOutcome xs st a b ≡ accepted (1 ∷ []) → Held a b rs
+    to true g f =
+        let w = some-member (inside a b) rs .0 g in
+        let k = inside-true a b (w .0) .0 (w .2) in
+        (w .0, w .1, k .0, k .1)
+    to false g f =
+        let h : accepted (0 ∷ []) ≡ accepted (1 ∷ []) = rw (e, g) at f in
+        absurd (omega (arith, ap (λ (o : Outcome). getD (o .values) 0 0) h))
