@@ -5,7 +5,7 @@ use Prim.Native.Nat.{ℕ, zero, suc, _+_, _*_, _-_, _≤_, _<_}
 use native.Mathlib.Omega.{arith}
 use lib.ListN.{length, getD, take, drop, set, replicate, length-append, length-drop, length-replicate, take-append-drop, getD-replicate, List·getD-append}
 use native.Mathlib.Numerals.{add-one}
-use lib.Seq.{sets-eq, drop-append-le, drop-append-add, drop-drop, take-at, getD-append-add}
+use lib.Seq.{sets-eq, drop-append-le, drop-append-add, drop-drop, take-at, getD-append-add, set-getD}
 use Rattle.ranges.specs.Range.{Range, range}
 use Rattle.ranges.specs.Store.{pairs, flat, counted, cleared, stored}
 use Rattle.ranges.proofs.Flat.{length-counted, flat-append, length-flat, pairs-flat, flat-counted}
@@ -104,3 +104,16 @@ given-up rs n xs i h k =
     ∙ getD-append-add (flat rs) (replicate z 0 ++ drop (2 * n) xs) m 0
     ∙ List·getD-append (replicate z 0) (drop (2 * n) xs) 0 m (omega arith)
     ∙ getD-replicate z m 0 0 (omega arith)
+
+-- the last end written anew
+pub stored-last : (xs : List ℕ) (m p e : ℕ) → m ≡ suc p → 2 * m ≤ length xs → set xs (2 * p + 1) e ≡ stored (counted xs p ++ (range (getD xs (2 * p) 0) e ∷ [])) m xs
+stored-last xs m p e mp h =
+    let s : ℕ = getD xs (2 * p) 0 in
+    let rs : List Range = counted xs p ++ (range s e ∷ []) in
+    let n = length-counted xs p (omega arith) in
+    let k : length rs ≡ length (counted xs p) + 1 = length-append (counted xs p) (range s e ∷ []) in
+    let t : 2 * length rs ≡ 2 * p + 2 = omega arith in
+    let f : flat rs ≡ take (2 * p) xs ++ (s ∷ e ∷ []) = flat-append (counted xs p) (range s e ∷ []) ∙ ap (λ (l : List ℕ). l ++ (s ∷ e ∷ [])) (flat-counted xs p (omega arith)) in
+    ap (λ (l : List ℕ). set l (2 * p + 1) e) (sym (set-getD xs (2 * p) 0))
+    ∙ rw add-one (sets-eq (s ∷ e ∷ []) xs (2 * p) (omega arith))
+    ∙ sym (stored-grown rs m xs (omega arith) ∙ ap₂ (λ (l : List ℕ) (j : ℕ). l ++ drop j xs) f t)

@@ -7,7 +7,7 @@ use mathlib.Core.Logic.{_⊎_, inl, inr, ⊎-elim, _↔_}
 use Prim.Native.Nat.{ℕ, zero, suc, _+_, _-_, _≤_, _<_, min, max}
 use native.Mathlib.Omega.{arith}
 use native.Mathlib.Decide.{decLt}
-use lib.ListN.{length, getD, take, drop, drop-of-length-le}
+use lib.ListN.{length, getD, take, drop, drop-of-length-le, length-append, take-append-drop}
 use lib.Seq.{drop-cons, drop-drop, getD-drop}
 use lib.Dec.{ltb}
 use borrow.Author.Tests.{lt-ltb, le-ltb, ltb-true, ltb-false, leb-true, leb-false}
@@ -31,6 +31,13 @@ part-covers x s e = go (ltb s e) refl
     go : (t : Bool) → ltb s e ≡ t → Covers x (part s e) ↔ In x (range s e)
     go true q = rw q (⊎-elim (λ h. h) absurd, λ h. inl h)
     go false q = let k = ltb-false s e q in rw q (absurd, λ h. omega arith)
+
+pub length-part : (s e : ℕ) → length (part s e) ≤ 1
+length-part s e = go (ltb s e) refl
+  where
+    go : (t : Bool) → ltb s e ≡ t → length (part s e) ≤ 1
+    go true q = rw q (omega arith)
+    go false q = rw q (omega arith)
 
 module _ (a b : ℕ) where
   -- x is no offset of (a, b)
@@ -113,6 +120,32 @@ module _ (a b : ℕ) (lt : a < b) where
       go : (t : Bool) → ltb (r .start) b ≡ t → (some (shares a b) rs ≡ false → without a b rs ≡ rs) → without a b (r ∷ rs) ≡ r ∷ rs
       go true f i = keep (pieces-before r (s .1) (ltb-false a (r .end) (rw f at here))) i
       go false f i = keep (pieces-behind r (s .1) (ltb-false (r .start) b f)) i
+
+  -- at most one range more is left: only one range can be split
+  pub length-without : (d : ℕ) (rs : List Range) → Above d rs → length (without a b rs) ≤ suc (length rs)
+  length-without d [] s = omega arith
+  length-without d (r ∷ rs) s = go (ltb b (r .end)) refl (length-without (suc (r .end)) rs (s .2))
+    where
+      lows : List Range
+      lows = part (r .start) (min (r .end) a)
+
+      joined : length (without a b (r ∷ rs)) ≡ length lows + length (part (max (r .start) b) (r .end)) + length (without a b rs)
+      joined =
+          length-append (pieces a b r) (without a b rs)
+          ∙ ap (λ (n : ℕ). n + length (without a b rs)) (length-append lows (part (max (r .start) b) (r .end)))
+
+      go : (t : Bool) → ltb b (r .end) ≡ t → length (without a b rs) ≤ suc (length rs) → length (without a b (r ∷ rs)) ≤ suc (suc (length rs))
+      go true e i =
+          let k : b < r .end = ltb-true _ _ e in
+          let w = ap length (without-behind (suc (r .end)) rs (s .2) (omega arith)) in
+          let m = length-part (r .start) (min (r .end) a) in
+          let n = length-part (max (r .start) b) (r .end) in
+          omega (arith, joined)
+      go false e i =
+          let k : r .end ≤ b = ltb-false _ _ e in
+          let w = ap length (part-none (max (r .start) b) (r .end) (omega arith)) in
+          let m = length-part (r .start) (min (r .end) a) in
+          omega (arith, joined)
 
   -- ranges that end at a or before stay in front
   pub without-front : (d : ℕ) (rs : List Range) → Above d rs → without a b rs ≡ take (first a rs) rs ++ without a b (drop (first a rs) rs)
@@ -208,3 +241,18 @@ without-run a b i j rs lt s ei ej ij = go (decLt i (length rs))
     go : Dec (i < length rs) → without a b rs ≡ take i rs ++ (part (q .start) a ++ part b (getD rs (j - 1) (range 0 0) .end)) ++ drop j rs
     go (yes h) = starts h (from b q) refl
     go (no h) = let z : j ≡ i + 0 = ej ∙ rw (drop-of-length-le rs {i = i} (omega arith)) in absurd (omega arith)
+
+-- where no range stands between the two places, nothing leaves
+pub without-nothing : (a b i : ℕ) (rs : List Range) → a < b → Coalesced rs → i ≡ first a rs → i ≡ behind i b rs → without a b rs ≡ rs
+without-nothing a b i rs lt s ei ej =
+    rw (← ei) at (without-front a b lt 0 rs s)
+    ∙ ap (λ (l : List Range). take i rs ++ l) (behind-all (drop i rs) (coalesced-drop i 0 rs s) (omega arith))
+    ∙ take-append-drop i rs
+  where
+    behind-all : (qs : List Range) → Coalesced qs → place (from b) qs ≡ 0 → without a b qs ≡ qs
+    behind-all [] c e = refl
+    behind-all (q ∷ qs) c e = go (from b q) refl
+      where
+        go : (t : Bool) → from b q ≡ t → without a b (q ∷ qs) ≡ q ∷ qs
+        go true f = without-behind a b lt (q .start) (q ∷ qs) (omega arith, c .1, c .2) (leb-true _ _ f)
+        go false f = let z : suc (place (from b) qs) ≡ 0 = rw f at e in absurd (omega arith)

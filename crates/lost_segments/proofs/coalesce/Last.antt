@@ -11,9 +11,9 @@ use lib.Dec.{ltb}
 use borrow.Author.Tests.{le-ltb, lt-ltb}
 use Rattle.ranges.specs.Range.{Range, range, Above, Coalesced}
 use Rattle.ranges.specs.Store.{flat, counted, stored}
-use Rattle.ranges.proofs.Flat.{at, length-counted, getD-counted}
+use Rattle.ranges.proofs.Flat.{at, length-counted, getD-counted, counted-last}
 use Rattle.ranges.proofs.Flat.{flat-append, flat-counted}
-use Rattle.ranges.proofs.Stored.{stored-grown, stored-push, stored-same}
+use Rattle.ranges.proofs.Stored.{stored-grown, stored-push, stored-same, stored-last}
 use Rattle.ranges.proofs.Flat.{take-counted}
 use Rattle.lost_segments.specs.Coalesce.{joined, absorb, insert, join}
 use Rattle.lost_segments.proofs.coalesce.Shape.{kept}
@@ -68,13 +68,6 @@ insert-behind d (p ∷ ps) q r a h k =
     let l = last-above (suc (p .end)) ps q (a .2) in
     rw (lt-ltb (p .end) (r .start) (omega arith)) (ap (λ (l : List Range). p ∷ l) (insert-behind (suc (p .end)) ps q r (a .2) h k))
 
-pub counted-last : (xs : List ℕ) (p : ℕ) → 2 * suc p ≤ length xs → counted xs (suc p) ≡ counted xs p ++ (at xs p ∷ [])
-counted-last xs p h =
-    let n = length-counted xs (suc p) h in
-    sym (take-all (suc p) (counted xs (suc p)) (omega arith))
-    ∙ take-suc (counted xs (suc p)) p (range 0 0) (omega arith)
-    ∙ ap₂ (λ (l : List Range) (r : Range). l ++ (r ∷ [])) (take-counted xs (suc p) p (omega arith) h) (getD-counted xs (suc p) p (omega arith) h)
-
 same-pair : {a b c d : ℕ} → a ≡ b → c ≡ d → range a c ≡ range b d
 same-pair p q = ap₂ range p q
 
@@ -96,19 +89,6 @@ behind-last xs (suc p) s e h se a l u =
     let w = counted-last xs p h in
     let k : getD xs (2 * p) 0 ≤ s = last-low s (counted xs p) (at xs p) (rw w at l) in
     rw (lt-ltb s e se, w) (insert-behind 0 (counted xs p) (at xs p) (range s e) (rw w at a) k (u p refl))
-
--- the last end written anew
-pub stored-last : (xs : List ℕ) (m p e : ℕ) → m ≡ suc p → 2 * m ≤ length xs → set xs (2 * p + 1) e ≡ stored (counted xs p ++ (range (getD xs (2 * p) 0) e ∷ [])) m xs
-stored-last xs m p e mp h =
-    let s : ℕ = getD xs (2 * p) 0 in
-    let rs : List Range = counted xs p ++ (range s e ∷ []) in
-    let n = length-counted xs p (omega arith) in
-    let k : length rs ≡ length (counted xs p) + 1 = length-append (counted xs p) (range s e ∷ []) in
-    let t : 2 * length rs ≡ 2 * p + 2 = omega arith in
-    let f : flat rs ≡ take (2 * p) xs ++ (s ∷ e ∷ []) = flat-append (counted xs p) (range s e ∷ []) ∙ ap (λ (l : List ℕ). l ++ (s ∷ e ∷ [])) (flat-counted xs p (omega arith)) in
-    ap (λ (l : List ℕ). set l (2 * p + 1) e) (sym (set-getD xs (2 * p) 0))
-    ∙ rw add-one (sets-eq (s ∷ e ∷ []) xs (2 * p) (omega arith))
-    ∙ sym (stored-grown rs m xs (omega arith) ∙ ap₂ (λ (l : List ℕ) (j : ℕ). l ++ drop j xs) f t)
 
 -- the answers of `put_last`
 abbrev pub Put : List ℕ → ℕ → ℕ → ℕ → ℕ → List ℕ → Type 0

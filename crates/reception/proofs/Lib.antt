@@ -1,0 +1,5 @@
+pub mod Ends
+pub mod Gaps
+pub mod Keeping
+pub mod Waits
+pub mod Sound

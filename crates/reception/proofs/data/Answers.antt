@@ -1,0 +1,60 @@
+-- The data event's answer at each end of its checks, and what the answer leaves in the record and in the list.
+use mathlib.Core.Path.{_≡_, refl, sym, ap, ap₂, _∙_}
+use mathlib.Core.Bool.{Bool, true, false, cond}
+use mathlib.Core.List.{List, [], _∷_}
+use Prim.Native.Nat.{ℕ, _+_, _≤_, _<_, max}
+use lib.ListN.{length}
+use lib.Dec.{ltb, eqb}
+use borrow.Author.Tests.{eq-eqb, ne-eqb, lt-ltb, le-ltb}
+use Rattle.ranges.specs.Range.{Range, isCoalesced}
+use Rattle.ranges.specs.Store.{counted, capacity, limitOf, stored}
+use Rattle.ranges.specs.Outcome.{Outcome, accepted, lent, storeFull, emptySegment, largeFileSegmentNotSupported, notCoalesced, rangeTooLong, badStore, scopeBelowList}
+use Rattle.ranges.specs.Inner.Cut.{cutAnswer, cutList}
+use Rattle.ranges.specs.declared.inner.cut.Remains.the-variants.{Full, Left}
+use Rattle.ranges.proofs.Cutting.{cut-told, full-told}
+use Rattle.reception.specs.declared.Reception.{Reception}
+use Rattle.reception.specs.Record.{isBadRecord, lastEnd, checked}
+use Rattle.reception.proofs.Sound.{Passed, checked-passed}
+use Rattle.reception.specs.Data.{dataRanges, dataOutcome, dataRecord, dataList}
+
+module _ (rec : Reception) (xs : List ℕ) (offset size : ℕ) where
+  abbrev pub after : List Range
+  after = dataRanges (rec .missing) (rec .progress) offset (offset + size) (counted xs (rec .count))
+
+  abbrev pub advanced : Reception
+  advanced = record { progress = max (rec .progress) (offset + size); count = length after; width = rec .width; missing = rec .missing }
+
+  -- an answer, and what it leaves
+  pub answer : (o : Outcome) → o ≡ dataOutcome rec xs offset size
+      → (o ≡ dataOutcome rec xs offset size) × ((lent o advanced rec ≡ dataRecord rec xs offset size) × (lent o (stored after (rec .count) xs) xs ≡ dataList rec xs offset size))
+  answer o e = (e, (ap (λ (p : Outcome). lent p advanced rec) e, ap (λ (p : Outcome). lent p (stored after (rec .count) xs) xs) e))
+
+  module _ (p : Passed xs rec) where
+    -- the outcome behind the three checks
+    abbrev rest : Outcome
+    rest =
+        cond (eqb size 0) emptySegment
+        (cond (ltb 18446744073709551615 (offset + size)) rangeTooLong
+        (cond (ltb (limitOf (rec .width)) (offset + size)) largeFileSegmentNotSupported
+        (cond (ltb (capacity xs) (length after)) storeFull (cond (rec .missing) (accepted (0 ∷ [])) (accepted (1 ∷ []))))))
+
+    from : (o : Outcome) → o ≡ rest → o ≡ dataOutcome rec xs offset size
+    from o e = e ∙ checked-passed xs rec rest p
+
+    pub data-empty : size ≡ 0 → emptySegment ≡ dataOutcome rec xs offset size
+    data-empty h = from emptySegment (rw (eq-eqb size 0 h))
+
+    module _ (n : size ≡ 0 → ⊥) where
+      pub data-long : 18446744073709551615 < offset + size → rangeTooLong ≡ dataOutcome rec xs offset size
+      data-long h = from rangeTooLong (rw (ne-eqb size 0 n, lt-ltb _ _ h))
+
+      module _ (s : offset + size ≤ 18446744073709551615) where
+        pub data-large : limitOf (rec .width) < offset + size → largeFileSegmentNotSupported ≡ dataOutcome rec xs offset size
+        data-large h = from largeFileSegmentNotSupported (rw (ne-eqb size 0 n, le-ltb _ _ s, lt-ltb _ _ h))
+
+        module _ (t : offset + size ≤ limitOf (rec .width)) where
+          pub data-full : ltb (capacity xs) (length after) ≡ true → storeFull ≡ dataOutcome rec xs offset size
+          data-full h = from storeFull (rw (ne-eqb size 0 n, le-ltb _ _ s, le-ltb (limitOf (rec .width)) (offset + size) t, h))
+
+          pub data-taken : ltb (capacity xs) (length after) ≡ false → cond (rec .missing) (accepted (0 ∷ [])) (accepted (1 ∷ [])) ≡ dataOutcome rec xs offset size
+          data-taken h = from (cond (rec .missing) (accepted (0 ∷ [])) (accepted (1 ∷ []))) (rw (ne-eqb size 0 n, le-ltb _ _ s, le-ltb (limitOf (rec .width)) (offset + size) t, h))

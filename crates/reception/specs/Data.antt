@@ -1,0 +1,74 @@
+-- The data event (offset, length) (document 01, "Reception events").
+use Prim.Native.Nat.{ℕ, _+_, max}
+use mathlib.Core.Bool.{Bool, true, false, cond}
+use mathlib.Core.List.{List, [], _∷_}
+use lib.ListN.{length}
+use lib.Dec.{ltb, eqb}
+use Rattle.ranges.specs.Range.{Range, range}
+use Rattle.ranges.specs.Store.{counted, capacity, limitOf, stored}
+use Rattle.ranges.specs.Without.{without}
+use Rattle.ranges.specs.Outcome.{Outcome, accepted, lent, storeFull, emptySegment, largeFileSegmentNotSupported, notCoalesced, rangeTooLong, badStore, scopeBelowList}
+use Rattle.reception.specs.declared.Reception.{Reception}
+use Rattle.reception.specs.declared.data.DataAnswer.{DataAnswer}
+use Rattle.reception.specs.declared.data.DataAnswer.the-variants as answer
+use Rattle.reception.specs.Record.{waitingRanges, checked}
+
+-- The number and the values of each case of the answer: 0 where the range is noticed, 1 where it is kept.
+abbrev pub dataCase : DataAnswer → Outcome
+dataCase answer.Noticed = accepted (0 ∷ [])
+dataCase answer.Kept = accepted (1 ∷ [])
+dataCase answer.BadStore = badStore
+dataCase answer.NotCoalesced = notCoalesced
+dataCase answer.ScopeBelowList = scopeBelowList
+dataCase answer.EmptySegment = emptySegment
+dataCase answer.RangeTooLong = rangeTooLong
+dataCase answer.LargeFileSegmentNotSupported = largeFileSegmentNotSupported
+dataCase answer.StoreFull = storeFull
+
+-- The gap (p, a) behind the list: it joins a range that ends at p.
+abbrev pub appended : ℕ → ℕ → List Range → List Range
+appended p a [] = range p a ∷ []
+appended p a (r ∷ []) = cond (eqb (r .end) p) (range (r .start) a ∷ []) (r ∷ range p a ∷ [])
+appended p a (r ∷ q ∷ rs) = r ∷ appended p a (q ∷ rs)
+
+-- If the offset a is above progress p, offsets from progress up to it become missing.
+abbrev pub withGap : ℕ → ℕ → List Range → List Range
+withGap p a rs = cond (ltb p a) (appended p a rs) rs
+
+-- Known: offsets of (a, e) leave the list, across several ranges if need be, and a gap is added.
+abbrev pub keptRanges : ℕ → ℕ → ℕ → List Range → List Range
+keptRanges p a e rs = withGap p a (without a e rs)
+
+-- The ranges that the event leaves if it is accepted. Waiting: the range is noticed and not kept; all below progress is missing.
+abbrev pub dataRanges : Bool → ℕ → ℕ → ℕ → List Range → List Range
+dataRanges true p a e rs = waitingRanges (max p e)
+dataRanges false p a e rs = keptRanges p a e rs
+
+-- Checks: 10, 8, 12, 2 (length 0), 9, 4 (end above the narrow limit), 1. 1 is given exactly if the resulting list would have more
+-- ranges than the capacity.
+abbrev pub dataOutcome : Reception → List ℕ → ℕ → ℕ → Outcome
+dataOutcome rec xs offset size =
+    checked xs rec
+    (cond (eqb size 0) emptySegment
+    (cond (ltb 18446744073709551615 (offset + size)) rangeTooLong
+    (cond (ltb (limitOf (rec .width)) (offset + size)) largeFileSegmentNotSupported
+    (cond (ltb (capacity xs) (length (dataRanges (rec .missing) (rec .progress) offset (offset + size) (counted xs (rec .count))))) storeFull
+    (cond (rec .missing) (accepted (0 ∷ [])) (accepted (1 ∷ [])))))))
+
+-- The record afterwards: progress becomes the larger of itself and the end.
+abbrev pub dataRecord : Reception → List ℕ → ℕ → ℕ → Reception
+dataRecord rec xs offset size =
+    lent (dataOutcome rec xs offset size)
+    (record {
+      progress = max (rec .progress) (offset + size);
+      count = length (dataRanges (rec .missing) (rec .progress) offset (offset + size) (counted xs (rec .count)));
+      width = rec .width;
+      missing = rec .missing;
+    })
+    rec
+
+-- The list afterwards.
+abbrev pub dataList : Reception → List ℕ → ℕ → ℕ → List ℕ
+dataList rec xs offset size =
+    lent (dataOutcome rec xs offset size)
+    (stored (dataRanges (rec .missing) (rec .progress) offset (offset + size) (counted xs (rec .count))) (rec .count) xs) xs

@@ -1,0 +1,42 @@
+// The metadata event.
+ghost use mathlib.Core.Path.{_≡_};
+ghost use Rattle.reception.specs.Record.{recordOf};
+ghost use Rattle.reception.specs.Metadata.{metadataCase, metadataOutcome, metadataRecord};
+use crate::inner::bad_record;
+use crate::inner::last_end;
+use ranges::Width;
+use ranges::inner::checks::is_coalesced;
+
+pub enum MetadataAnswer {
+    Known,
+    BadStore,
+    NotCoalesced,
+    ScopeBelowList,
+    AlreadyKnown,
+}
+
+// What the core hands back: the answer, and the missing mark afterwards.
+pub struct MetadataStep {
+    pub answer: MetadataAnswer,
+    pub missing: bool,
+}
+
+// The metadata event on the numbers of a record, by value, and the lent list.
+pub fn metadata_core(list: &[u64], count: usize, progress: u64, width: Width, missing: bool) -> MetadataStep
+    ensures { λ r. ⌜ (metadataCase (r .answer) ≡ metadataOutcome (recordOf progress count width missing) (now (list .entry)))
+        × (recordOf progress count width (r .missing) ≡ metadataRecord (recordOf progress count width missing) (now (list .entry))) ⌝ }
+{
+    if bad_record(list, count, progress, width, missing) {
+        return MetadataStep { answer: MetadataAnswer::BadStore, missing };
+    }
+    if !is_coalesced(list, count) {
+        return MetadataStep { answer: MetadataAnswer::NotCoalesced, missing };
+    }
+    if progress < last_end(list, count) {
+        return MetadataStep { answer: MetadataAnswer::ScopeBelowList, missing };
+    }
+    if missing {
+        return MetadataStep { answer: MetadataAnswer::Known, missing: false };
+    }
+    MetadataStep { answer: MetadataAnswer::AlreadyKnown, missing }
+}
