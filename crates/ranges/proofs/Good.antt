@@ -4,7 +4,7 @@ use mathlib.Core.Bool.{false}
 use mathlib.Core.List.{List}
 use Prim.Native.Nat.{ℕ, _*_, _/_, _%_, _≤_}
 use native.Mathlib.Omega.{arith}
-use borrow.Author.Tests.{eqb-false, ltb-false}
+use borrow.Author.Tests.{eqb-false, ltb-false, ne-eqb, le-ltb}
 use lib.ListN.{length, take}
 use Rattle.ranges.proofs.Test.{or-false}
 use Rattle.ranges.specs.Store.{isBadStore, anyAbove}
@@ -25,3 +25,10 @@ good xs n top e =
     let q : n ≤ length xs / 2 = ltb-false _ _ (d .0) in
     let o : length xs % 2 ≡ 1 → ⊥ = eqb-false _ _ (a .0) in
     record { room = omega arith; small = p; even = omega arith; below = d .1 }
+
+-- and such a store is passed by check 10
+pub good-store : (xs : List ℕ) (n top : ℕ) → Good xs n top → isBadStore xs n top ≡ false
+unfolding isBadStore
+good-store xs n top g =
+    let r = g .room in
+    rw (ne-eqb (length xs % 2) 1 (λ e. omega (arith, g .even)), le-ltb 8192 (length xs) (g .small), le-ltb (length xs / 2) n (omega arith)) (g .below)

@@ -3,3 +3,5 @@ pub mod Gaps
 pub mod Keeping
 pub mod Waits
 pub mod Sound
+pub mod Standing
+pub mod Histories

@@ -1,0 +1,328 @@
+-- From a fresh reception with room for N, after any list of events, accepted and refused mixed: the list is exactly the maximal runs
+-- of the octets below progress that no kept range covers; it is coalesced and ends at progress or before; progress is the largest
+-- accepted end; it has at most as many runs as events were accepted; and a refused event leaves everything as it was.
+use mathlib.Core.Path.{_≡_, refl, sym, ap, _∙_}
+use mathlib.Core.Bool.{Bool, true, false, cond, true≢false}
+use mathlib.Core.List.{List, [], _∷_}
+use mathlib.Core.Logic.{_⊎_, inl, inr, ⊎-elim, _↔_}
+use Prim.Native.Nat.{ℕ, zero, suc, _+_, _*_, _≤_, _<_, max}
+use native.Mathlib.Omega.{arith}
+use native.Mathlib.Decide.{decLt}
+use lib.ListN.{length}
+use lib.Dec.{eqb, ltb}
+use borrow.Author.Tests.{lt-ltb, ltb-true}
+use Rattle.ranges.specs.Range.{Range, range, In, Covers, Coalesced}
+use Rattle.ranges.specs.Run.{RunsOf}
+use Rattle.ranges.specs.Store.{counted, capacity, limitOf, stored}
+use Rattle.ranges.specs.Outcome.{Outcome, accepted, storeFull}
+use Rattle.ranges.specs.declared.Width.{Width}
+use Rattle.ranges.proofs.Runs.{runs-of}
+use Rattle.ranges.proofs.Stored.{counted-stored}
+use Rattle.ranges.proofs.Without.{Outside, part-covers, length-part}
+use Rattle.reception.specs.declared.Reception.{Reception}
+use Rattle.reception.specs.Record.{lastEnd, waitingRanges}
+use Rattle.reception.specs.Data.{keptRanges, dataRanges, dataOutcome}
+use Rattle.reception.specs.Metadata.{metadataOutcome}
+use Rattle.reception.specs.History.{Event, Data, Metadata, State, fresh, isAccepted, outcome, step, run, keptBy, kept, acceptedOf, endBy, largestEnd, Missing, rangesOf}
+use Rattle.reception.proofs.Sound.{Passed}
+use Rattle.reception.proofs.Keeping.{kept-covers, length-kept}
+use Rattle.reception.proofs.Standing.{Standing, standing-passed, standing-stored, standing-fresh, after-whole, after-last}
+use Rattle.reception.proofs.data.Answers.{after, advanced, data-full, data-taken}
+use Rattle.reception.proofs.data.Accepted.{Taken, taken}
+
+-- a refused event leaves the reception as it was
+pub refused-same : (s : State) (e : Event) → isAccepted s e ≡ false → step s e ≡ s
+refused-same s (Data o z) f = rw f
+refused-same s Metadata f = rw f
+
+-- so the history goes on as if it had not come
+pub refused-gone : (s : State) (e : Event) (es : List Event) → isAccepted s e ≡ false → run s (e ∷ es) ≡ run s es
+refused-gone s e es f = ap (λ (t : State). run t es) (refused-same s e f)
+
+-- what holds on the way: P are the offsets kept so far, n the events accepted
+pub record Holds (s : State) (N : ℕ) (P : ℕ → Type 0) (n : ℕ) : Type 0 where
+  pub standing : Standing s N
+  pub exact : (x : ℕ) → Covers x (rangesOf s) ↔ ((x < s .rec .progress) × (P x → ⊥))
+  pub below : (x : ℕ) → P x → x < s .rec .progress
+  pub none : s .rec .missing ≡ true → (x : ℕ) → P x → ⊥
+  pub runs : length (rangesOf s) ≤ n
+
+holds-same : (s : State) (N : ℕ) (P Q : ℕ → Type 0) (n m : ℕ) → n ≤ m → ((x : ℕ) → P x ↔ Q x) → Holds s N P n → Holds s N Q m
+holds-same s N P Q n m k f h =
+    let r = h .runs in
+    record {
+      standing = h .standing;
+      exact = λ x. (
+        λ c. let w = h .exact x .0 c in (w .0, λ q. w .1 (f x .1 q)),
+        λ w. h .exact x .1 (w .0, λ p. w .1 (f x .0 p)),
+      );
+      below = λ x q. h .below x (f x .1 q);
+      none = λ e x q. h .none e x (f x .1 q);
+      runs = omega arith;
+    }
+
+-- an accepted data event
+module _ (s : State) (N : ℕ) (P : ℕ → Type 0) (n : ℕ) (h : Holds s N P n) (o z : ℕ) (t : Taken (s .rec) (s .list) o z) where
+  next : State
+  next = record { rec = advanced (s .rec) (s .list) o z; list = stored (after (s .rec) (s .list) o z) (s .rec .count) (s .list) }
+
+  ordered : o < o + z
+  ordered = let k = t .some in omega arith
+
+  now : rangesOf next ≡ after (s .rec) (s .list) o z
+  unfolding next
+  now = counted-stored (after (s .rec) (s .list) o z) (s .rec .count) (s .list)
+
+  stands : Standing next N
+  unfolding next
+  stands =
+      let g = h .standing in
+      let c = g .size in
+      let r = t .room in
+      let u = t .small in
+      let v = g .small in
+      standing-stored s N g (after (s .rec) (s .list) o z) (max (s .rec .progress) (o + z)) (s .rec .missing) (omega arith)
+      (after-whole (s .rec .missing) (s .rec .progress) o (o + z) (rangesOf s) ordered (g .whole) (g .last))
+      (after-last (s .rec .missing) (s .rec .progress) o (o + z) (rangesOf s) ordered (g .whole) (g .last))
+      (omega arith)
+      (λ m. rw m)
+
+  kept-known : s .rec .missing ≡ false → Holds next N (λ x. Covers x (range o (o + z) ∷ []) ⊎ P x) (suc n)
+  unfolding next
+  kept-known m =
+      let g = h .standing in
+      let q : rangesOf next ≡ keptRanges (s .rec .progress) o (o + z) (rangesOf s) = now ∙ rw m in
+      let r = length-kept (s .rec .progress) o (o + z) (rangesOf s) ordered (g .whole) (g .last) in
+      let l = h .runs in
+      record {
+        standing = stands;
+        exact = λ x. rw q (λ k. to x (c x .0 k), λ w. c x .1 (from x w (decLt x (s .rec .progress)) (decLt x o) (decLt x (o + z))));
+        below = λ x. ⊎-elim (⊎-elim (λ k. omega arith) absurd) (λ k. let b = h .below x k in omega arith);
+        none = λ e. absurd (true≢false (sym e ∙ m));
+        runs = rw q (omega arith);
+      }
+    where
+      c : (x : ℕ) → Covers x (keptRanges (s .rec .progress) o (o + z) (rangesOf s)) ↔ ((Covers x (rangesOf s) × Outside o (o + z) x) ⊎ In x (range (s .rec .progress) o))
+      c x = kept-covers (s .rec .progress) o (o + z) (rangesOf s) ordered (h .standing .whole) (h .standing .last) x
+
+      to : (x : ℕ) → (Covers x (rangesOf s) × Outside o (o + z) x) ⊎ In x (range (s .rec .progress) o)
+          → (x < max (s .rec .progress) (o + z)) × ((Covers x (range o (o + z) ∷ []) ⊎ P x) → ⊥)
+      to x (inl k) =
+          let w = h .exact x .0 (k .0) in
+          let u = w .0 in
+          (omega arith, ⊎-elim (⊎-elim (λ g. ⊎-elim (λ y. omega arith) (λ y. omega arith) (k .1)) absurd) (w .1))
+      to x (inr k) =
+          let u = ordered in
+          (omega arith, ⊎-elim (⊎-elim (λ g. omega arith) absurd) (λ y. let b = h .below x y in omega arith))
+
+      from : (x : ℕ) → (x < max (s .rec .progress) (o + z)) × ((Covers x (range o (o + z) ∷ []) ⊎ P x) → ⊥)
+          → Dec (x < s .rec .progress) → Dec (x < o) → Dec (x < o + z)
+          → (Covers x (rangesOf s) × Outside o (o + z) x) ⊎ In x (range (s .rec .progress) o)
+      from x w (yes u) (yes v) d = inl (h .exact x .1 (u, λ y. w .1 (inr y)), inl v)
+      from x w (yes u) (no v) (yes d) = absurd (w .1 (inl (inl (omega arith, d))))
+      from x w (yes u) (no v) (no d) = inl (h .exact x .1 (u, λ y. w .1 (inr y)), inr (omega arith))
+      from x w (no u) (yes v) d = inr (omega arith, v)
+      from x w (no u) (no v) d = let k = w .0 in absurd (w .1 (inl (inl (omega arith, omega arith))))
+
+  kept-waiting : s .rec .missing ≡ true → Holds next N (λ x. Covers x [] ⊎ P x) (suc n)
+  unfolding next
+  kept-waiting m =
+      let q : rangesOf next ≡ waitingRanges (max (s .rec .progress) (o + z)) = now ∙ rw m in
+      let r = length-part 0 (max (s .rec .progress) (o + z)) in
+      record {
+        standing = stands;
+        exact = λ x. rw q (
+          λ k. (part-covers x 0 (max (s .rec .progress) (o + z)) .0 k .1, ⊎-elim absurd (h .none m x)),
+          λ w. part-covers x 0 (max (s .rec .progress) (o + z)) .1 (omega arith, w .0),
+        );
+        below = λ x. ⊎-elim absurd (λ y. absurd (h .none m x y));
+        none = λ e x. ⊎-elim absurd (h .none m x);
+        runs = rw q (omega arith);
+      }
+
+-- the metadata event only clears the mark
+known : (s : State) (N : ℕ) (P : ℕ → Type 0) (n : ℕ) → Holds s N P n
+    → Holds (record { rec = record { progress = s .rec .progress; count = s .rec .count; width = s .rec .width; missing = false }; list = s .list }) N P (suc n)
+known s N P n h =
+    let g = h .standing in
+    let r = h .runs in
+    record {
+      standing = record { size = g .size; few = g .few; room = g .room; held = g .held; whole = g .whole; last = g .last; small = g .small; waits = λ e. absurd (true≢false (sym e)) };
+      exact = h .exact;
+      below = h .below;
+      none = λ e. absurd (true≢false (sym e));
+      runs = omega arith;
+    }
+
+-- the set that an event adds to the kept offsets
+split-kept : (t m : Bool) (e : Event) (rs : List Range) (x : ℕ) → Covers x (keptBy t m e rs) ↔ (Covers x (keptBy t m e []) ⊎ Covers x rs)
+split-kept true true (Data o z) rs x = (λ k. inr k, ⊎-elim absurd (λ k. k))
+split-kept true false (Data o z) rs x = (⊎-elim (λ k. inl (inl k)) (λ k. inr k), ⊎-elim (⊎-elim (λ k. inl k) absurd) (λ k. inr k))
+split-kept true true Metadata rs x = (λ k. inr k, ⊎-elim absurd (λ k. k))
+split-kept true false Metadata rs x = (λ k. inr k, ⊎-elim absurd (λ k. k))
+split-kept false m e rs x = (λ k. inr k, ⊎-elim absurd (λ k. k))
+
+-- one event, accepted or refused
+module _ (s : State) (N : ℕ) (P : ℕ → Type 0) (n : ℕ) (h : Holds s N P n) where
+  fits : (e : Event) (t m : Bool) (r : State) → step s e ≡ r → isAccepted s e ≡ t → s .rec .missing ≡ m
+      → Holds r N (λ x. Covers x (keptBy t m e []) ⊎ P x) (cond t (suc n) n)
+      → Holds (step s e) N (λ x. Covers x (keptBy (isAccepted s e) (s .rec .missing) e []) ⊎ P x) (cond (isAccepted s e) (suc n) n)
+  fits e t m r a b c k = rw (a, b, c) k
+
+  nothing : (x : ℕ) → P x ↔ (Covers x [] ⊎ P x)
+  nothing x = (λ k. inr k, ⊎-elim absurd (λ k. k))
+
+  pub step-holds : (e : Event) → Holds (step s e) N (λ x. Covers x (keptBy (isAccepted s e) (s .rec .missing) e []) ⊎ P x) (cond (isAccepted s e) (suc n) n)
+  unfolding next
+  step-holds e = go e (isAccepted s e) refl (s .rec .missing) refl
+    where
+      now-known : State
+      now-known = record { rec = record { progress = s .rec .progress; count = s .rec .count; width = s .rec .width; missing = false }; list = s .list }
+
+      go : (e : Event) (t : Bool) → isAccepted s e ≡ t → (m : Bool) → s .rec .missing ≡ m
+          → Holds (step s e) N (λ x. Covers x (keptBy (isAccepted s e) (s .rec .missing) e []) ⊎ P x) (cond (isAccepted s e) (suc n) n)
+      go (Data o z) true f true g =
+          let k = taken (s .rec) (s .list) o z (standing-passed s N (h .standing)) f in
+          fits (Data o z) true true (next s N P n h o z k) (rw f) f g (kept-waiting s N P n h o z k g)
+      go (Data o z) true f false g =
+          let k = taken (s .rec) (s .list) o z (standing-passed s N (h .standing)) f in
+          fits (Data o z) true false (next s N P n h o z k) (rw f) f g (kept-known s N P n h o z k g)
+      go Metadata true f true g = fits Metadata true true now-known (rw f) f g (holds-same now-known N P (λ x. Covers x [] ⊎ P x) (suc n) (suc n) (omega arith) nothing (known s N P n h))
+      go Metadata true f false g = fits Metadata true false now-known (rw f) f g (holds-same now-known N P (λ x. Covers x [] ⊎ P x) (suc n) (suc n) (omega arith) nothing (known s N P n h))
+      go (Data o z) false f m g = fits (Data o z) false m s (refused-same s (Data o z) f) f g (holds-same s N P (λ x. Covers x [] ⊎ P x) n n (omega arith) nothing h)
+      go Metadata false f m g = fits Metadata false m s (refused-same s Metadata f) f g (holds-same s N P (λ x. Covers x [] ⊎ P x) n n (omega arith) nothing h)
+
+-- a list of events
+pub history : (es : List Event) (s : State) (N : ℕ) (P : ℕ → Type 0) (n : ℕ) → Holds s N P n → Holds (run s es) N (λ x. Covers x (kept s es) ⊎ P x) (acceptedOf s es + n)
+history [] s N P n h = holds-same s N P (λ x. Covers x [] ⊎ P x) n (zero + n) (omega arith) (λ x. (λ k. inr k, ⊎-elim absurd (λ k. k))) h
+history (e ∷ es) s N P n h =
+    holds-same (run (step s e) es) N
+    (λ x. Covers x (kept (step s e) es) ⊎ (Covers x (keptBy (isAccepted s e) (s .rec .missing) e []) ⊎ P x))
+    (λ x. Covers x (kept s (e ∷ es)) ⊎ P x)
+    (acceptedOf (step s e) es + cond (isAccepted s e) (suc n) n) (acceptedOf s (e ∷ es) + n)
+    (counted-more (isAccepted s e) (acceptedOf (step s e) es))
+    (λ x. let w = split-kept (isAccepted s e) (s .rec .missing) e (kept (step s e) es) x in (
+      ⊎-elim (λ k. inl (w .1 (inr k))) (⊎-elim (λ k. inl (w .1 (inl k))) (λ k. inr k)),
+      ⊎-elim (λ k. ⊎-elim (λ y. inr (inl y)) (λ y. inl y) (w .0 k)) (λ k. inr (inr k)),
+    ))
+    (history es (step s e) N (λ x. Covers x (keptBy (isAccepted s e) (s .rec .missing) e []) ⊎ P x) (cond (isAccepted s e) (suc n) n) (step-holds s N P n h e))
+  where
+    counted-more : (t : Bool) (k : ℕ) → k + cond t (suc n) n ≤ cond t (suc k) k + n
+    counted-more true k = omega arith
+    counted-more false k = omega arith
+
+-- a fresh reception with room for N, whatever the lent list holds
+module _ (w : Width) (xs : List ℕ) (N : ℕ) (size : length xs ≡ 2 * N) (few : N ≤ 4096) (es : List Event) where
+  abbrev start : State
+  start = fresh w xs
+
+  abbrev reached : State
+  reached = run start es
+
+  holds : Holds reached N (λ x. Covers x (kept start es)) (acceptedOf start es)
+  holds =
+      holds-same reached N (λ x. Covers x (kept start es) ⊎ ⊥) (λ x. Covers x (kept start es)) (acceptedOf start es + 0) (acceptedOf start es) (omega arith)
+      (λ x. (⊎-elim (λ k. k) absurd, λ k. inl k))
+      (history es start N (λ x. ⊥) 0
+      (record {
+        standing = standing-fresh w xs N size few;
+        exact = λ x. (absurd, λ k. let u = k .0 in absurd (omega arith));
+        below = λ x. absurd;
+        none = λ e x k. k;
+        runs = omega arith;
+      }))
+
+  -- the list is exactly the maximal runs of the octets below progress that no kept range covers
+  pub missing-runs : RunsOf (Missing start es) (rangesOf reached)
+  missing-runs = runs-of (Missing start es) (rangesOf reached) (holds .standing .whole) (holds .exact)
+
+  pub missing-exact : (x : ℕ) → Covers x (rangesOf reached) ↔ Missing start es x
+  missing-exact = holds .exact
+
+  -- it is coalesced and ends at or below progress
+  pub list-coalesced : Coalesced (rangesOf reached)
+  list-coalesced = holds .standing .whole
+
+  pub list-ends : lastEnd (rangesOf reached) ≤ reached .rec .progress
+  list-ends = holds .standing .last
+
+  -- after n accepted events it has at most n runs
+  pub few-runs : length (rangesOf reached) ≤ acceptedOf start es
+  few-runs = holds .runs
+
+  -- while waiting all below progress is missing
+  pub waiting-all : reached .rec .missing ≡ true → (x : ℕ) → Covers x (rangesOf reached) ↔ (x < reached .rec .progress)
+  waiting-all m x = (λ k. holds .exact x .0 k .0, λ k. holds .exact x .1 (k, holds .none m x))
+
+  -- every event passes checks 10, 8 and 12
+  pub always-sound : Passed (reached .list) (reached .rec)
+  always-sound = standing-passed reached N (holds .standing)
+
+-- progress is the largest accepted end
+step-progress : (s : State) (e : Event) → step s e .rec .progress ≡ endBy (isAccepted s e) e (s .rec .progress)
+step-progress s (Data o z) = go (isAccepted s (Data o z)) refl
+  where
+    go : (t : Bool) → isAccepted s (Data o z) ≡ t → step s (Data o z) .rec .progress ≡ endBy (isAccepted s (Data o z)) (Data o z) (s .rec .progress)
+    go true f = rw f (omega arith)
+    go false f = rw f
+step-progress s Metadata = go (isAccepted s Metadata) refl
+  where
+    go : (t : Bool) → isAccepted s Metadata ≡ t → step s Metadata .rec .progress ≡ endBy (isAccepted s Metadata) Metadata (s .rec .progress)
+    go true f = rw f
+    go false f = rw f
+
+larger-end : (t : Bool) (e : Event) (p l : ℕ) → max (endBy t e p) l ≡ max p (endBy t e l)
+larger-end true (Data o z) p l = omega arith
+larger-end true Metadata p l = refl
+larger-end false e p l = refl
+
+progress-from : (es : List Event) (s : State) → run s es .rec .progress ≡ max (s .rec .progress) (largestEnd s es)
+progress-from [] s = omega arith
+progress-from (e ∷ es) s =
+    progress-from es (step s e)
+    ∙ ap (λ (p : ℕ). max p (largestEnd (step s e) es)) (step-progress s e)
+    ∙ larger-end (isAccepted s e) e (s .rec .progress) (largestEnd (step s e) es)
+
+pub progress-largest : (w : Width) (xs : List ℕ) (es : List Event) → run (fresh w xs) es .rec .progress ≡ largestEnd (fresh w xs) es
+progress-largest w xs es = let k = progress-from es (fresh w xs) in omega arith
+
+-- what one more event does after any history
+module _ (w : Width) (xs : List ℕ) (N : ℕ) (size : length xs ≡ 2 * N) (few : N ≤ 4096) (es : List Event) (o z : ℕ) where
+  abbrev before : State
+  before = run (fresh w xs) es
+
+  abbrev would : List Range
+  would = dataRanges (before .rec .missing) (before .rec .progress) o (o + z) (rangesOf before)
+
+  -- an otherwise valid data event is refused with 1 exactly if its outcome would have more than N ranges
+  pub room-rule : (z ≡ 0 → ⊥) → o + z ≤ 18446744073709551615 → o + z ≤ limitOf (before .rec .width)
+      → (outcome before (Data o z) ≡ storeFull) ↔ (N < length would)
+  room-rule n s t = (to (ltb (capacity (before .list)) (length would)) refl, λ h. sym (data-full (before .rec) (before .list) o z p n s t (lt-ltb (capacity (before .list)) (length would) (omega (arith, cap)))))
+    where
+      p : Passed (before .list) (before .rec)
+      p = always-sound w xs N size few es
+
+      cap : length (before .list) ≡ 2 * N
+      cap = holds w xs N size few es .standing .size
+
+      to : (u : Bool) → ltb (capacity (before .list)) (length would) ≡ u → outcome before (Data o z) ≡ storeFull → N < length would
+      to true e f = let k : capacity (before .list) < length would = ltb-true _ _ e in omega (arith, cap)
+      to false e f =
+          let g = data-taken (before .rec) (before .list) o z p n s t e in
+          absurd (apart (before .rec .missing) (g ∙ f))
+        where
+          apart : (m : Bool) → cond m (accepted (0 ∷ [])) (accepted (1 ∷ [])) ≡ storeFull → ⊥
+          apart true e = omega (arith, ap (λ (o : Outcome). o .number) e)
+          apart false e = omega (arith, ap (λ (o : Outcome). o .number) e)
+
+  -- an accepted event while the metadata is known: the range's offsets leave, those between progress and the offset become missing
+  pub effect-kept : isAccepted before (Data o z) ≡ true → before .rec .missing ≡ false → (x : ℕ)
+      → Covers x (rangesOf (step before (Data o z))) ↔ ((Covers x (rangesOf before) × Outside o (o + z) x) ⊎ In x (range (before .rec .progress) o))
+  effect-kept f m x =
+      let h = holds w xs N size few es in
+      let t = taken (before .rec) (before .list) o z (always-sound w xs N size few es) f in
+      let k = t .some in
+      let e₁ : rangesOf (step before (Data o z)) ≡ would = rw f (counted-stored would (before .rec .count) (before .list)) in
+      let e₂ : would ≡ keptRanges (before .rec .progress) o (o + z) (rangesOf before) = rw m in
+      let e : rangesOf (step before (Data o z)) ≡ keptRanges (before .rec .progress) o (o + z) (rangesOf before) = e₁ ∙ e₂ in
+      rw e (kept-covers (before .rec .progress) o (o + z) (rangesOf before) (omega arith) (h .standing .whole) (h .standing .last) x)
