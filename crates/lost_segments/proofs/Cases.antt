@@ -1,10 +1,11 @@
 -- No two answers of a call have one outcome, so each call's statement allows one answer. Each enum is read back from its outcome.
-use mathlib.Core.Path.{_≡_, refl, sym, ap, _∙_}
+use mathlib.Core.Path.{_≡_, refl}
 use mathlib.Core.Bool.{cond}
 use Prim.Native.Nat.{ℕ}
 use lib.Dec.{eqb}
 use lib.ListN.{getD}
 use Rattle.ranges.specs.Outcome.{Outcome}
+use Rattle.ranges.proofs.Apart.{apart}
 use Rattle.lost_segments.specs.Add.{addCase}
 use Rattle.lost_segments.specs.Remove.{removeCase}
 use Rattle.lost_segments.specs.Coalesce.{coalesceCase}
@@ -24,10 +25,6 @@ use Rattle.lost_segments.specs.declared.write_segments_to_bytes.WriteAns
 -- the i-th value
 abbrev value : ℕ → Outcome → ℕ
 value i o = getD (o .values) i 0
-
--- what can be read back is decided by what it is read from
-apart {ℓ} : {A : Type ℓ} (case : A → Outcome) (back : Outcome → A) → ((r : A) → back (case r) ≡ r) → (r s : A) → case r ≡ case s → r ≡ s
-apart case back f r s e = sym (f r) ∙ ap back e ∙ f s
 
 abbrev addBack : Outcome → AddAnswer
 addBack o =

@@ -12,3 +12,4 @@ pub mod Runs
 pub mod Fewest
 pub mod Good
 pub mod Some
+pub mod Apart

@@ -1,11 +1,11 @@
 -- The end of the last range: of the counted pairs, and as a bound on the offsets of a coalesced list.
-use mathlib.Core.Path.{_≡_, refl, sym, ap, _∙_}
+use mathlib.Core.Path.{_≡_, refl, ap, _∙_}
 use mathlib.Core.List.{List, [], _∷_, _++_}
-use mathlib.Core.Logic.{_⊎_, inl, inr, ⊎-elim}
-use Prim.Native.Nat.{ℕ, zero, suc, _+_, _*_, _-_, _≤_, _<_}
+use mathlib.Core.Logic.{inl, inr}
+use Prim.Native.Nat.{ℕ, suc, _+_, _*_, _-_, _≤_, _<_}
 use native.Mathlib.Omega.{arith}
 use lib.ListN.{length, getD}
-use Rattle.ranges.specs.Range.{Range, range, In, Covers, Above, Coalesced}
+use Rattle.ranges.specs.Range.{Range, Covers, Above}
 use Rattle.ranges.specs.Store.{counted}
 use Rattle.ranges.specs.Without.{without}
 use Rattle.ranges.proofs.Flat.{at, counted-last}

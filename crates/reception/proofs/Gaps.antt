@@ -3,14 +3,14 @@ use mathlib.Core.Path.{_≡_, refl, sym, ap, _∙_}
 use mathlib.Core.Bool.{Bool, true, false}
 use mathlib.Core.List.{List, [], _∷_, _++_, append-assoc}
 use mathlib.Core.Logic.{_⊎_, inl, inr, ⊎-elim, _↔_}
-use Prim.Native.Nat.{ℕ, zero, suc, _+_, _*_, _-_, _≤_, _<_}
+use Prim.Native.Nat.{ℕ, zero, suc, _+_, _*_, _≤_, _<_}
 use native.Mathlib.Omega.{arith}
 use native.Mathlib.Decide.{decLt}
 use lib.ListN.{length, getD, set, length-append}
-use lib.Dec.{eqb, ltb}
+use lib.Dec.{eqb}
 use borrow.Author.Tests.{eqb-true, eqb-false, eq-eqb, ne-eqb, lt-ltb, le-ltb}
-use Rattle.ranges.specs.Range.{Range, range, In, Covers, Above, Coalesced}
-use Rattle.ranges.specs.Store.{counted, capacity, stored}
+use Rattle.ranges.specs.Range.{Range, range, In, Covers, Above}
+use Rattle.ranges.specs.Store.{counted, capacity}
 use Rattle.ranges.specs.Inner.Cut.{cutAnswer, cutList}
 use Rattle.ranges.specs.declared.inner.cut.Remains.{Remains}
 use Rattle.ranges.specs.declared.inner.cut.Remains.the-variants.{Full, Left}

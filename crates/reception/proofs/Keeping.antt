@@ -2,7 +2,7 @@
 -- offsets from progress up to the range become missing, and nothing else changes; it grows by at most one range.
 use mathlib.Core.Path.{_≡_, refl, sym, ap, _∙_}
 use mathlib.Core.Bool.{Bool, true, false}
-use mathlib.Core.List.{List, [], _∷_}
+use mathlib.Core.List.{List}
 use mathlib.Core.Logic.{_⊎_, inl, inr, ⊎-elim, _↔_}
 use Prim.Native.Nat.{ℕ, suc, _*_, _≤_, _<_, max}
 use native.Mathlib.Omega.{arith}

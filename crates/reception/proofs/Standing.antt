@@ -1,28 +1,23 @@
 -- What holds of every reception that comes from a fresh one with room for N: the record is sound, so every event passes checks 10, 8
 -- and 12; and an accepted event leaves it so.
 use mathlib.Core.Path.{_≡_, refl, sym, ap, _∙_}
-use mathlib.Core.Bool.{Bool, true, false, _||_, _&&_, not, true≢false}
+use mathlib.Core.Bool.{Bool, true, false, _&&_, not}
 use mathlib.Core.List.{List, [], _∷_}
-use mathlib.Core.Logic.{_⊎_, inl, inr, ⊎-elim}
-use Prim.Native.Nat.{ℕ, zero, suc, _+_, _*_, _/_, _%_, _≤_, _<_, max}
+use Prim.Native.Nat.{ℕ, suc, _*_, _≤_, _<_, max}
 use native.Mathlib.Omega.{arith}
 use native.Mathlib.Decide.{decLt}
 use lib.ListN.{length, take}
-use lib.Seq.{take-at}
-use lib.Dec.{ltb}
 use borrow.Author.Tests.{le-ltb}
-use Rattle.ranges.specs.Range.{Range, range, Covers, Above, Coalesced}
-use Rattle.ranges.specs.Store.{counted, flat, capacity, limitOf, anyAbove, isBadStore, stored}
-use Rattle.ranges.specs.Without.{part}
+use Rattle.ranges.specs.Range.{Range, Above, Coalesced}
+use Rattle.ranges.specs.Store.{counted, flat, limitOf, anyAbove, isBadStore, stored}
 use Rattle.ranges.specs.declared.Width.{Width}
-use Rattle.ranges.proofs.Flat.{length-flat, length-counted}
 use Rattle.ranges.proofs.Stored.{counted-stored, take-stored, length-stored}
 use Rattle.ranges.proofs.Test.{of-coalesced}
-use Rattle.ranges.proofs.Good.{Good, good-store}
+use Rattle.ranges.proofs.Good.{good-store}
 use Rattle.ranges.proofs.Without.{part-one, part-none}
 use Rattle.reception.specs.declared.Reception.{Reception}
-use Rattle.reception.specs.Record.{isBadRecord, isWaiting, lastEnd, waitingRanges, freshRecord}
-use Rattle.reception.specs.Data.{dataRanges, keptRanges}
+use Rattle.reception.specs.Record.{isBadRecord, isWaiting, lastEnd, waitingRanges}
+use Rattle.reception.specs.Data.{dataRanges}
 use Rattle.reception.specs.History.{State, rangesOf, fresh}
 use Rattle.reception.proofs.Sound.{Passed}
 use Rattle.reception.proofs.Ends.{ends-le, last-tail}

@@ -2,6 +2,7 @@
 ghost use mathlib.Core.Path.{_≡_};
 ghost use Rattle.reception.specs.Record.{recordOf};
 ghost use Rattle.reception.specs.Data.{dataCase, dataOutcome, dataRecord, dataList};
+use crate::Reception;
 use crate::inner::bad_record;
 use crate::inner::change;
 use crate::inner::larger;
@@ -44,34 +45,103 @@ pub fn data_core(
         × (now (list .exit) ≡ dataList (recordOf progress count width missing) (now (list .entry)) offset length)) ⌝ }
 {
     if bad_record(list, count, progress, width, missing) {
-        return DataStep { answer: DataAnswer::BadStore, count, progress };
+        return DataStep {
+            answer: DataAnswer::BadStore,
+            count,
+            progress,
+        };
     }
     if !is_coalesced(list, count) {
-        return DataStep { answer: DataAnswer::NotCoalesced, count, progress };
+        return DataStep {
+            answer: DataAnswer::NotCoalesced,
+            count,
+            progress,
+        };
     }
     if progress < last_end(list, count) {
-        return DataStep { answer: DataAnswer::ScopeBelowList, count, progress };
+        return DataStep {
+            answer: DataAnswer::ScopeBelowList,
+            count,
+            progress,
+        };
     }
     if length == 0 {
-        return DataStep { answer: DataAnswer::EmptySegment, count, progress };
+        return DataStep {
+            answer: DataAnswer::EmptySegment,
+            count,
+            progress,
+        };
     }
     if 18446744073709551615 - offset < length {
-        return DataStep { answer: DataAnswer::RangeTooLong, count, progress };
+        return DataStep {
+            answer: DataAnswer::RangeTooLong,
+            count,
+            progress,
+        };
     }
     let end = offset + length;
     if width.limit() < end {
-        return DataStep { answer: DataAnswer::LargeFileSegmentNotSupported, count, progress };
+        return DataStep {
+            answer: DataAnswer::LargeFileSegmentNotSupported,
+            count,
+            progress,
+        };
     }
     let left = change(list, count, progress, missing, offset, end);
     match left {
-        Remains::Full => DataStep { answer: DataAnswer::StoreFull, count, progress },
+        Remains::Full => DataStep {
+            answer: DataAnswer::StoreFull,
+            count,
+            progress,
+        },
         Remains::Left(m) => {
             let to = larger(progress, end);
             if missing {
-                DataStep { answer: DataAnswer::Noticed, count: m, progress: to }
+                DataStep {
+                    answer: DataAnswer::Noticed,
+                    count: m,
+                    progress: to,
+                }
             } else {
-                DataStep { answer: DataAnswer::Kept, count: m, progress: to }
+                DataStep {
+                    answer: DataAnswer::Kept,
+                    count: m,
+                    progress: to,
+                }
             }
         }
     }
+}
+
+// The data event: the record is changed where it lies.
+pub fn data_event(rec: &mut Reception, list: &mut [u64], offset: u64, length: u64) -> DataAnswer
+    ensures { λ r. ⌜ (dataCase r ≡ dataOutcome (now (rec .entry)) (now (list .entry)) offset length)
+        × ((now (rec .exit) ≡ dataRecord (now (rec .entry)) (now (list .entry)) offset length)
+        × (now (list .exit) ≡ dataList (now (rec .entry)) (now (list .entry)) offset length)) ⌝ }
+{
+    let count = rec.count;
+    let progress = rec.progress;
+    let width = rec.width;
+    let missing = rec.missing;
+    let s = data_core(list, count, progress, width, missing, offset, length);
+    rec.count = s.count;
+    rec.progress = s.progress;
+    s.answer
+}
+
+// What a caller has after a step, by value.
+pub struct DataDone {
+    pub answer: DataAnswer,
+    pub rec: Reception,
+}
+
+// The data event with plain parameters: the record goes in by value and comes back.
+pub fn data_by_value(rec: Reception, list: &mut [u64], offset: u64, length: u64) -> DataDone
+    ensures { λ r. ⌜ (dataCase (r .answer) ≡ dataOutcome rec (now (list .entry)) offset length)
+        × ((r .rec ≡ dataRecord rec (now (list .entry)) offset length)
+        × (now (list .exit) ≡ dataList rec (now (list .entry)) offset length)) ⌝ }
+{
+    let mut own = rec;
+    let answer = data_event(&mut own, list, offset, length);
+    DataDone { answer, rec: own }
 }

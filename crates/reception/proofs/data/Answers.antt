@@ -1,19 +1,15 @@
 -- The data event's answer at each end of its checks, and what the answer leaves in the record and in the list.
-use mathlib.Core.Path.{_≡_, refl, sym, ap, ap₂, _∙_}
-use mathlib.Core.Bool.{Bool, true, false, cond}
+use mathlib.Core.Path.{_≡_, ap, _∙_}
+use mathlib.Core.Bool.{true, false, cond}
 use mathlib.Core.List.{List, [], _∷_}
 use Prim.Native.Nat.{ℕ, _+_, _≤_, _<_, max}
 use lib.ListN.{length}
 use lib.Dec.{ltb, eqb}
 use borrow.Author.Tests.{eq-eqb, ne-eqb, lt-ltb, le-ltb}
-use Rattle.ranges.specs.Range.{Range, isCoalesced}
+use Rattle.ranges.specs.Range.{Range}
 use Rattle.ranges.specs.Store.{counted, capacity, limitOf, stored}
-use Rattle.ranges.specs.Outcome.{Outcome, accepted, lent, storeFull, emptySegment, largeFileSegmentNotSupported, notCoalesced, rangeTooLong, badStore, scopeBelowList}
-use Rattle.ranges.specs.Inner.Cut.{cutAnswer, cutList}
-use Rattle.ranges.specs.declared.inner.cut.Remains.the-variants.{Full, Left}
-use Rattle.ranges.proofs.Cutting.{cut-told, full-told}
+use Rattle.ranges.specs.Outcome.{Outcome, accepted, lent, storeFull, emptySegment, largeFileSegmentNotSupported, rangeTooLong}
 use Rattle.reception.specs.declared.Reception.{Reception}
-use Rattle.reception.specs.Record.{isBadRecord, lastEnd, checked}
 use Rattle.reception.proofs.Sound.{Passed, checked-passed}
 use Rattle.reception.specs.Data.{dataRanges, dataOutcome, dataRecord, dataList}
 

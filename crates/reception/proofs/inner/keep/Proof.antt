@@ -1,8 +1,6 @@
 -- `keep` meets its contract: a gap, nothing, or a cut.
 use native.Mathlib.Omega.{arith}
-use Prim.Native.Nat.{ℕ, suc, _+_, _*_, _-_, _≤_, _<_}
-use mathlib.Core.Path.{_≡_, refl, sym, ap, _∙_}
-use lib.ListN.{length, getD, take, drop, set}
+use mathlib.Core.Path.{_∙_}
 use borrow.Author.Needs.{needs}
 use Rattle.ranges.specs.Store.{counted}
 use Rattle.reception.proofs.Keeping.{kept-gap, kept-within, kept-nothing}

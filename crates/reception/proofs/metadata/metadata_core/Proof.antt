@@ -1,10 +1,9 @@
 -- `metadata_core` meets its contract: each answer is that of the checks in order, and only the missing mark is cleared.
 use native.Mathlib.Omega.{arith}
-use Prim.Native.Nat.{ℕ, suc, _+_, _*_, _-_, _≤_, _<_}
-use mathlib.Core.Path.{_≡_, refl, sym, ap, _∙_}
-use lib.ListN.{length, getD, take, drop, set}
+use Prim.Native.Nat.{ℕ}
+use mathlib.Core.Path.{_≡_, sym, ap, _∙_}
 use borrow.Author.Needs.{needs}
-use mathlib.Core.Bool.{Bool, true, false, cond}
+use mathlib.Core.Bool.{Bool, false, cond}
 use mathlib.Core.List.{List, []}
 use borrow.Author.Tests.{not-true, not-false}
 use Rattle.ranges.specs.Outcome.{Outcome, accepted, lent, notCoalesced, badStore, scopeBelowList, alreadyKnown}
