@@ -1,0 +1,110 @@
+-- The answers of writing, one for each check that refuses, and the one where none does.
+-- Assumes nothing.
+use mathlib.Core.Path.{_≡_, refl, sym, ap, ap₂, _∙_}
+use mathlib.Core.Bool.{Bool, true, false, _||_, _&&_, not}
+use mathlib.Core.List.{List, [], _∷_, _++_}
+use Prim.Native.Nat.{ℕ, zero, suc, _+_, _*_, _/_, _%_, _≤_, _<_}
+use native.Mathlib.Omega.{arith}
+use lib.Dec.{eqb, ltb}
+use lib.ListN.{length, take, drop}
+use lib.Seq.{take-length}
+use borrow.Author.Tests.{eqb-false, ltb-false, ltb-true, lt-ltb, le-ltb, eq-eqb, ne-eqb, not-false}
+use Rattle.ranges.specs.Range.{Range, range}
+use Rattle.ranges.specs.Store.{pairs, flat, anyAbove}
+use Rattle.ranges.specs.Outcome as to
+use Rattle.ranges.specs.Outcome.{Outcome, accepted, refused}
+use Rattle.octets.specs.Octets.{fits}
+use Rattle.octets.specs.Flag.{largestOf}
+use Rattle.nak.specs.declared.Identity.{Identity}
+use Rattle.nak.specs.Pdu.{Nak, pdu}
+use Rattle.nak.specs.Request.{requestsOutcome}
+use Rattle.nak.specs.Inner.{entries, GoodLengths}
+use Rattle.nak.specs.Writer.{isBadList, isBadLength, isBadIdentity, nakOutcome, writeOutcome}
+
+-- the numbers of a NAK: those of its scope, and of its requests
+abbrev pub numbersOf : Nak → List ℕ
+numbersOf n = n .scope .start ∷ n .scope .end ∷ flat (n .requests)
+
+not-zero : (k : ℕ) → eqb (suc k) 0 ≡ false
+not-zero k = ne-eqb (suc k) 0 (λ e. omega arith)
+
+module _ (n : Nak) where
+  pub nak-13 : isBadIdentity (n .identity) ≡ true → nakOutcome n ≡ to.badIdentity
+  unfolding nakOutcome
+  nak-13 a = rw a
+
+  pub nak-18 : isBadIdentity (n .identity) ≡ false → n .scope .end < n .scope .start → nakOutcome n ≡ to.scopeReversed
+  unfolding nakOutcome
+  nak-18 a b = rw (a, lt-ltb (n .scope .end) (n .scope .start) b)
+
+  module _ (a : isBadIdentity (n .identity) ≡ false) (b : n .scope .start ≤ n .scope .end) where
+    pub nak-request : (k : ℕ) (vs : List ℕ) → requestsOutcome (n .requests) ≡ refused (suc k) vs → nakOutcome n ≡ refused (suc k) vs
+    unfolding nakOutcome
+    nak-request k vs c = rw (a, le-ltb (n .scope .end) (n .scope .start) b, c, not-zero k)
+
+    module _ (c : requestsOutcome (n .requests) ≡ accepted []) where
+      pub nak-7 : anyAbove (largestOf (n .flag)) (numbersOf n) ≡ true → nakOutcome n ≡ to.largeSegmentForNormalFileSize
+      unfolding nakOutcome
+      nak-7 d = rw (a, le-ltb (n .scope .end) (n .scope .start) b, c, d)
+
+      module _ (d : anyAbove (largestOf (n .flag)) (numbersOf n) ≡ false) where
+        pub nak-14 : 4096 < length (pdu n) → nakOutcome n ≡ to.pduSize
+        unfolding nakOutcome
+        nak-14 e = rw (a, le-ltb (n .scope .end) (n .scope .start) b, c, d, lt-ltb 4096 (length (pdu n)) e)
+
+        pub nak-fine : length (pdu n) ≤ 4096 → nakOutcome n ≡ accepted []
+        unfolding nakOutcome
+        nak-fine e = rw (a, le-ltb (n .scope .end) (n .scope .start) b, c, d, le-ltb 4096 (length (pdu n)) e)
+
+module _ (xs : List ℕ) (n : Nak) (given : ℕ) where
+  pub write-10 : isBadList xs ≡ true → writeOutcome xs n given ≡ to.badStore
+  unfolding writeOutcome
+  write-10 a = rw a
+
+  pub write-nak : isBadList xs ≡ false → (k : ℕ) (vs : List ℕ) → nakOutcome n ≡ refused (suc k) vs → writeOutcome xs n given ≡ refused (suc k) vs
+  unfolding writeOutcome
+  write-nak a k vs b = rw (a, b, not-zero k)
+
+  pub write-6 : isBadList xs ≡ false → nakOutcome n ≡ accepted [] → (given ≡ length (pdu n) → ⊥) → writeOutcome xs n given ≡ to.bufferSizeMissmatch (length (pdu n)) given
+  unfolding writeOutcome
+  write-6 a b c = rw (a, b, ne-eqb given (length (pdu n)) c)
+
+  pub write-fine : isBadList xs ≡ false → nakOutcome n ≡ accepted [] → given ≡ length (pdu n) → writeOutcome xs n given ≡ accepted (length (pdu n) ∷ [])
+  unfolding writeOutcome
+  write-fine a b c = rw (a, b, eq-eqb given (length (pdu n)) c)
+
+-- a disjunction of tests that is false
+pub neither : (a b : Bool) → (a || b) ≡ false → (a ≡ false) × (b ≡ false)
+neither true b e = let z : _≡_ {A = Bool} true false = e in absurd (let k : _≡_ {A = ℕ} 0 1 = cc in omega arith)
+neither false b e = (refl, e)
+
+-- a list that 10 does not refuse: even, at most 4,096 pairs
+pub good-list : (xs : List ℕ) → isBadList xs ≡ false → (length xs % 2 ≡ 0) × (length xs ≤ 8192)
+unfolding isBadList
+good-list xs e =
+    let t = neither (eqb (length xs % 2) 1) (ltb 8192 (length xs)) e in
+    let o = eqb-false (length xs % 2) 1 (t .0) in
+    let k = ltb-false 8192 (length xs) (t .1) in
+    (omega arith, k)
+
+good-length : (l : ℕ) → isBadLength l ≡ false → (1 ≤ l) × (l ≤ 8)
+good-length l e =
+    let t = neither (eqb l 0) (ltb 8 l) e in
+    let o = eqb-false l 0 (t .0) in
+    (omega arith, ltb-false 8 l (t .1))
+
+-- an identity that 13 does not refuse
+pub good-lengths : (d : Identity) → isBadIdentity d ≡ false → GoodLengths d
+unfolding isBadIdentity
+good-lengths d e =
+    let t = neither (isBadLength (d .«entity_length»)) _ e in
+    let u = neither (isBadLength (d .«number_length»)) _ (t .1) in
+    let i = good-length (d .«entity_length») (t .0) in
+    let q = good-length (d .«number_length») (u .0) in
+    record { entity-low = i .0; entity-high = i .1; number-low = q .0; number-high = q .1 }
+
+-- all pairs of a list of even length
+pub all-entries : (xs : List ℕ) → length xs % 2 ≡ 0 → entries false xs 0 (length xs / 2) ≡ pairs xs
+all-entries xs e =
+    let k : 2 * (length xs / 2) ≡ length xs = omega arith in
+    rw (k, take-length)

@@ -1,0 +1,45 @@
+-- The requests of a NAK, one after the other.
+-- Assumes nothing.
+use mathlib.Core.Path.{_≡_, refl, sym, ap, ap₂, _∙_}
+use mathlib.Core.Bool.{Bool, true, false, _&&_, not}
+use mathlib.Core.List.{List, [], _∷_, _++_}
+use Prim.Native.Nat.{ℕ, zero, suc, _+_, _*_, _≤_, _<_}
+use native.Mathlib.Omega.{arith}
+use lib.Dec.{eqb, ltb}
+use borrow.Author.Tests.{lt-ltb, le-ltb, eq-eqb, ne-eqb}
+use lib.ListN.{drop}
+use lib.Seq.{drop-drop}
+use Rattle.ranges.specs.Range.{Range, range}
+use Rattle.ranges.specs.Outcome.{Outcome, accepted, emptySegment, startLargerThanEnd}
+use Rattle.nak.specs.Request.{isMetadata, requestOutcome, requestsFrom}
+use Rattle.nak.specs.Parser.{requestsIn, fieldAt}
+
+-- the list's answer where its first request is refused
+pub late-start : {rs qs : List Range} {s e : ℕ} (first : Bool) → rs ≡ range s e ∷ qs → e < s → requestsFrom first rs ≡ startLargerThanEnd s e
+unfolding requestOutcome
+late-start {s = s} {e = e} first q h = rw (q, lt-ltb e s h)
+
+pub empty-one : {rs qs : List Range} {s e : ℕ} (first : Bool) → rs ≡ range s e ∷ qs → s ≤ e → (eqb s e && not (first && isMetadata (range s e))) ≡ true → requestsFrom first rs ≡ emptySegment
+unfolding requestOutcome
+empty-one {s = s} {e = e} first q h k = rw (q, le-ltb e s h, k)
+
+-- and where it is not
+pub fine-one : {rs qs : List Range} {s e : ℕ} (first : Bool) → rs ≡ range s e ∷ qs → s ≤ e → (eqb s e && not (first && isMetadata (range s e))) ≡ false → requestsFrom first rs ≡ requestsFrom false qs
+unfolding requestOutcome
+fine-one {s = s} {e = e} first q h k = rw (q, le-ltb e s h, k)
+
+-- only place 0 is first
+pub not-first : (i : ℕ) → eqb (i + 1) 0 ≡ false
+not-first i = ne-eqb (i + 1) 0 (λ e. omega arith)
+
+-- a first request (s, s) is the one for metadata exactly if s is 0
+pub first-empty : (i s e : ℕ) → s ≡ e → i ≡ 0 → not (eqb s 0) ≡ (eqb s e && not (eqb i 0 && isMetadata (range s e)))
+first-empty i s e p q = rw (← p, eq-eqb i 0 q, eq-eqb s s refl) (go (eqb s 0))
+  where
+    go : (t : Bool) → not t ≡ not (t && t)
+    go true = refl
+    go false = refl
+
+-- the request at a place of a packet, and those behind it
+pub packet-turn : (p : List ℕ) (at f k : ℕ) {s e : ℕ} → s ≡ fieldAt p at f → e ≡ fieldAt p (at + f) f → requestsIn f (suc k) (drop at p) ≡ range s e ∷ requestsIn f k (drop (at + 2 * f) p)
+packet-turn p at f k h g = rw (h, g, drop-drop f at p, drop-drop (2 * f) at p)

@@ -1,0 +1,6 @@
+pub mod Header
+pub mod Pdu
+pub mod Request
+pub mod Inner
+pub mod Writer
+pub mod Parser

@@ -1,0 +1,139 @@
+-- Reading one PDU (document 01, "Reading").
+use Prim.Native.Nat.{ℕ, zero, suc, _+_, _*_, _-_, _/_, _%_}
+use mathlib.Core.Bool.{Bool, _||_, not, cond}
+use mathlib.Core.List.{List, [], _∷_}
+use lib.Dec.{eqb, ltb}
+use lib.ListN.{length, getD, take, drop}
+use Rattle.ranges.specs.Range.{Range, range}
+use Rattle.ranges.specs.Outcome.{Outcome, accepted, lengthMismatch, badHeader, notNak, scopeReversed, pduSize}
+use Rattle.octets.specs.Octets.{number}
+use Rattle.octets.specs.Flag.{fieldLength}
+use Rattle.octets.specs.declared.LargeFileFlag.{LargeFileFlag}
+use Rattle.octets.specs.declared.LargeFileFlag.the-variants.{Normal}
+use Rattle.nak.specs.declared.Identity.{Identity}
+use Rattle.nak.specs.declared.parser.Parsed.{Parsed}
+use Rattle.nak.specs.Header.{wrongFixed, flagOf, entityLengthOf, numberLengthOf}
+use Rattle.nak.specs.Pdu.{Nak, saying, nakCode, headerLength}
+use Rattle.nak.specs.Request.{following, requestsOutcome}
+
+-- The octet at a place.
+abbrev pub octetAt : List ℕ → ℕ → ℕ
+octetAt p at = getD p at 0
+
+-- The number in the f octets from a place on.
+abbrev pub fieldAt : List ℕ → ℕ → ℕ → ℕ
+fieldAt p at f = number (take f (drop at p))
+
+-- The large file flag, F, I and Q of a packet.
+unfoldable pub flagIn : List ℕ → LargeFileFlag
+flagIn p = flagOf (octetAt p 0)
+
+unfoldable pub fieldLengthIn : List ℕ → ℕ
+fieldLengthIn p = fieldLength (flagIn p)
+
+unfoldable pub entityLengthIn : List ℕ → ℕ
+entityLengthIn p = entityLengthOf (octetAt p 3)
+
+unfoldable pub numberLengthIn : List ℕ → ℕ
+numberLengthIn p = numberLengthOf (octetAt p 3)
+
+-- H of a packet, and its length field, octets 1 and 2.
+unfoldable pub headerLengthIn : List ℕ → ℕ
+headerLengthIn p = headerLength (entityLengthIn p) (numberLengthIn p)
+
+unfoldable pub lengthField : List ℕ → ℕ
+lengthField p = fieldAt p 1 2
+
+-- Where the scope starts, behind the directive code, and where the requests start, behind the scope.
+unfoldable pub scopeAt : List ℕ → ℕ
+scopeAt p = headerLengthIn p + 1
+
+unfoldable pub requestsAt : List ℕ → ℕ
+requestsAt p = scopeAt p + 2 * fieldLengthIn p
+
+-- The first n requests that octets hold: start and end, f octets each.
+abbrev pub requestsIn : ℕ → ℕ → List ℕ → List Range
+requestsIn f zero os = []
+requestsIn f (suc n) os = range (fieldAt os 0 f) (fieldAt os f f) ∷ requestsIn f n (drop (2 * f) os)
+
+-- Source entity, sequence number, destination entity, of I, Q and I octets.
+unfoldable pub identityIn : List ℕ → Identity
+identityIn p =
+    record {
+      «entity_length» = entityLengthIn p;
+      «number_length» = numberLengthIn p;
+      source = fieldAt p 4 (entityLengthIn p);
+      number = fieldAt p (4 + entityLengthIn p) (numberLengthIn p);
+      destination = fieldAt p (4 + entityLengthIn p + numberLengthIn p) (entityLengthIn p);
+    }
+
+unfoldable pub scopeIn : List ℕ → Range
+scopeIn p = range (fieldAt p (scopeAt p) (fieldLengthIn p)) (fieldAt p (scopeAt p + fieldLengthIn p) (fieldLengthIn p))
+
+-- As many requests as there is room for behind the scope.
+unfoldable pub requestsOf : List ℕ → List Range
+requestsOf p = requestsIn (fieldLengthIn p) ((length p - requestsAt p) / (2 * fieldLengthIn p)) (drop (requestsAt p) p)
+
+-- What a packet says.
+abbrev pub nakIn : List ℕ → Nak
+nakIn p = record { flag = flagIn p; identity = identityIn p; scope = scopeIn p; requests = requestsOf p }
+
+-- 16: packet not H plus the length field, or length field 0.
+unfoldable pub wrongLength : List ℕ → Bool
+wrongLength p = eqb (lengthField p) 0 || not (eqb (length p) (headerLengthIn p + lengthField p))
+
+-- 16: data field not 1 + 2F + a multiple of 2F.
+unfoldable pub wrongData : List ℕ → Bool
+wrongData p = ltb (lengthField p) (1 + 2 * fieldLengthIn p) || not (eqb ((lengthField p - (1 + 2 * fieldLengthIn p)) % (2 * fieldLengthIn p)) 0)
+
+-- Reading: below 4 octets 16; any fixed bit of octets 0 and 3 wrong 15; packet not H plus the length field, or length field 0,
+-- 16; 17; data field not 1 + 2F + a multiple of 2F, 16; 18; requests in order; total above 4,096, 14.
+unfoldable pub readOutcome : List ℕ → Outcome
+readOutcome p =
+    cond (ltb (length p) 4) lengthMismatch
+    (cond (wrongFixed (octetAt p 0) (octetAt p 3)) badHeader
+    (cond (wrongLength p) lengthMismatch
+    (cond (not (eqb (octetAt p (headerLengthIn p)) nakCode)) notNak
+    (cond (wrongData p) lengthMismatch
+    (cond (ltb (scopeIn p .end) (scopeIn p .start)) scopeReversed
+    (following (requestsOutcome (requestsOf p))
+    (cond (ltb 4096 (length p)) pduSize (accepted []))))))))
+
+-- What reading hands back of a refused packet: the number and what it carries, all else 0; the reader of the requests stands at
+-- its end, the packet's length.
+abbrev pub refusedParsed : ℕ → ℕ → ℕ → ℕ → Parsed
+refusedParsed n s e len =
+    record {
+      refusal = n;
+      start = s;
+      end = e;
+      identity = record { «entity_length» = 0; «number_length» = 0; source = 0; number = 0; destination = 0 };
+      flag = Normal;
+      «scope_start» = 0;
+      «scope_end» = 0;
+      from = 0;
+      to = 0;
+      next = len;
+    }
+
+-- And of an accepted one: number 0, and what the packet says. The requests stand from behind the scope to the packet's end.
+unfoldable pub acceptedParsed : List ℕ → Parsed
+acceptedParsed p =
+    record {
+      refusal = 0;
+      start = 0;
+      end = 0;
+      identity = identityIn p;
+      flag = flagIn p;
+      «scope_start» = scopeIn p .start;
+      «scope_end» = scopeIn p .end;
+      from = requestsAt p;
+      to = length p;
+      next = requestsAt p;
+    }
+
+abbrev pub parsed : Outcome → List ℕ → Parsed
+parsed o p = cond (eqb (o .number) 0) (acceptedParsed p) (refusedParsed (o .number) (getD (o .values) 0 0) (getD (o .values) 1 0) (length p))
+
+unfoldable pub parsedOf : List ℕ → Parsed
+parsedOf p = parsed (readOutcome p) p
