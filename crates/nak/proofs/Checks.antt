@@ -78,6 +78,15 @@ pub neither : (a b : Bool) → (a || b) ≡ false → (a ≡ false) × (b ≡ fa
 neither true b e = let z : _≡_ {A = Bool} true false = e in absurd (let k : _≡_ {A = ℕ} 0 1 = cc in omega arith)
 neither false b e = (refl, e)
 
+-- a test that is not true is false
+pub must-be-false : (t : Bool) → (t ≡ true → ⊥) → t ≡ false
+must-be-false true h = absurd (h refl)
+must-be-false false h = refl
+
+-- an outcome is not refused and accepted
+pub not-both : {o : Outcome} {k : ℕ} {vs : List ℕ} → o ≡ refused (suc k) vs → o .number ≡ 0 → ⊥
+not-both a b = let z = sym (ap (λ (x : Outcome). x .number) a) ∙ b in omega arith
+
 -- a list that 10 does not refuse: even, at most 4,096 pairs
 pub good-list : (xs : List ℕ) → isBadList xs ≡ false → (length xs % 2 ≡ 0) × (length xs ≤ 8192)
 unfolding isBadList

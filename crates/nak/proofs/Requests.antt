@@ -7,12 +7,9 @@ use Prim.Native.Nat.{ℕ, zero, suc, _+_, _*_, _≤_, _<_}
 use native.Mathlib.Omega.{arith}
 use lib.Dec.{eqb, ltb}
 use borrow.Author.Tests.{lt-ltb, le-ltb, eq-eqb, ne-eqb}
-use lib.ListN.{drop}
-use lib.Seq.{drop-drop}
 use Rattle.ranges.specs.Range.{Range, range}
 use Rattle.ranges.specs.Outcome.{Outcome, accepted, emptySegment, startLargerThanEnd}
 use Rattle.nak.specs.Request.{isMetadata, requestOutcome, requestsFrom}
-use Rattle.nak.specs.Parser.{requestsIn, fieldAt}
 
 -- the list's answer where its first request is refused
 pub late-start : {rs qs : List Range} {s e : ℕ} (first : Bool) → rs ≡ range s e ∷ qs → e < s → requestsFrom first rs ≡ startLargerThanEnd s e
@@ -39,7 +36,3 @@ first-empty i s e p q = rw (← p, eq-eqb i 0 q, eq-eqb s s refl) (go (eqb s 0))
     go : (t : Bool) → not t ≡ not (t && t)
     go true = refl
     go false = refl
-
--- the request at a place of a packet, and those behind it
-pub packet-turn : (p : List ℕ) (at f k : ℕ) {s e : ℕ} → s ≡ fieldAt p at f → e ≡ fieldAt p (at + f) f → requestsIn f (suc k) (drop at p) ≡ range s e ∷ requestsIn f k (drop (at + 2 * f) p)
-packet-turn p at f k h g = rw (h, g, drop-drop f at p, drop-drop (2 * f) at p)

@@ -3,4 +3,3 @@ pub mod Pdu
 pub mod Request
 pub mod Inner
 pub mod Writer
-pub mod Parser

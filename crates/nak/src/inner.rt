@@ -1,7 +1,6 @@
 // Inner: not part of the public interface. Some of these have a `requires`, which their callers show.
 use crate::Identity;
 use octets::LargeFileFlag;
-use octets::inner::get;
 use octets::inner::put;
 use octets::inner::put_all;
 ghost use mathlib.Core.Path.{_≡_};
@@ -9,7 +8,7 @@ ghost use mathlib.Core.Bool.{_&&_, not};
 ghost use mathlib.Core.List.{_∷_};
 ghost use Prim.Native.Nat.{_+_, _*_, _≤_};
 ghost use lib.Dec.{eqb};
-ghost use lib.ListN.{length, drop};
+ghost use lib.ListN.{length};
 ghost use Rattle.ranges.specs.Range.{range};
 ghost use Rattle.ranges.specs.Store.{pairs, flat, anyAbove};
 ghost use Rattle.octets.specs.Octets.{fields, withOctets};
@@ -19,7 +18,6 @@ ghost use Rattle.nak.specs.Pdu.{saying, headerOctets, identityOctets, da
 ghost use Rattle.nak.specs.Request.{isMetadata, requestsCase, requestsOutcome};
 ghost use Rattle.nak.specs.Inner.{asked, entries, GoodLengths};
 ghost use Rattle.nak.specs.Writer.{isBadList, isBadIdentity, isBadLength};
-ghost use Rattle.nak.specs.Parser.{requestsIn};
 
 // What a list of requests is answered.
 pub enum RequestsAnswer {
@@ -35,7 +33,7 @@ fn wide(x: usize) -> u64
 }
 
 // Whether the request (s, e) at place i is empty and not the one for metadata, which may stand first.
-fn is_empty(i: usize, s: u64, e: u64) -> bool
+pub fn is_empty(i: usize, s: u64, e: u64) -> bool
     ensures { λ r. ⌜ r ≡ (eqb s e && not (eqb i 0 && isMetadata (range s e))) ⌝ }
 {
     if s != e {
@@ -62,28 +60,6 @@ pub fn check_requests(requests: &[u64]) -> RequestsAnswer
         if is_empty(i, s, e) {
             return RequestsAnswer::EmptySegment;
         }
-        i += 1;
-    }
-    RequestsAnswer::Fine
-}
-
-// Each request of a packet in order: there are `count` from the place `from` on, their numbers of f octets.
-pub fn check_packet(packet: &[u8], from: usize, f: usize, count: usize) -> RequestsAnswer
-    requires { ⌜ (f ≤ 8) × (from + 2 * f * count ≤ length (now packet)) ⌝ }
-    ensures { λ r. ⌜ requestsCase r ≡ requestsOutcome (requestsIn f count (drop from (now (packet .entry)))) ⌝ }
-{
-    let mut at = from;
-    let mut i = 0;
-    while i < count {
-        let s = get(packet, at, f);
-        let e = get(packet, at + f, f);
-        if e < s {
-            return RequestsAnswer::StartLargerThanEnd(s, e);
-        }
-        if is_empty(i, s, e) {
-            return RequestsAnswer::EmptySegment;
-        }
-        at += 2 * f;
         i += 1;
     }
     RequestsAnswer::Fine

@@ -1,6 +1,5 @@
 // The NAK PDU: written from what it says, and read (CCSDS 727.0-B-5, PDU header and 5.2.6).
 pub mod inner;
-pub mod parser;
 pub mod writer;
 
 // Source entity and destination entity, identifiers of `entity_length` octets, and the transaction's sequence number, of

@@ -1,7 +1,8 @@
 use native.Mathlib.Nat.{mul-zero, mul-suc, add-zero, sub-zero}
-use Rattle.nak.proofs.Requests.{late-start, empty-one, fine-one, not-first, packet-turn}
-use Rattle.nak.specs.Parser.{requestsIn}
+use Rattle.nak.proofs.Requests.{late-start, empty-one, fine-one, not-first}
+use Rattle.nak_parser.proofs.Turn.{packet-turn}
+use Rattle.nak_parser.specs.Parser.{requestsIn}
 use Rattle.nak.specs.Request.{requestsFrom, requestsOutcome}
 use Rattle.octets.proofs.Turns.{room-all}
 use native.Mathlib.Numerals.{add-one}
 use lib.Dec.{eqb}
@@ -11,11 +12,11 @@ use native.Mathlib.Omega.{arith}
 use Prim.Native.Nat.{ℕ, suc, _+_, _*_, _-_, _≤_, _<_}
 use mathlib.Core.Path.{_≡_, refl, sym, ap, _∙_}
 use lib.ListN.{length, getD, take, drop, set}
-use Rattle.nak.proofs.inner.check_packet.Statement.{statement}
-use Rattle.nak.proofs.inner.check_packet.Tie as tie
-use Rattle.nak.proofs.inner.check_packet.Reads as reads
-use Rattle.nak.proofs.inner.check_packet.Lts as lts
+use Rattle.nak_parser.proofs.inner.check_packet.Statement.{statement}
+use Rattle.nak_parser.proofs.inner.check_packet.Tie as tie
+use Rattle.nak_parser.proofs.inner.check_packet.Reads as reads
+use Rattle.nak_parser.proofs.inner.check_packet.Lts as lts
 use Rattle.nak.proofs.inner.is_empty.Reads as is-empty-reads
 use Rattle.octets.proofs.inner.get.Reads as get-reads
 
 abbrev Inv-loop : tie.InvT-loop

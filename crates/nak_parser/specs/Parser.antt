@@ -10,11 +10,11 @@ use Rattle.octets.specs.Octets.{number}
 use Rattle.octets.specs.Flag.{fieldLength}
 use Rattle.octets.specs.declared.LargeFileFlag.{LargeFileFlag}
 use Rattle.octets.specs.declared.LargeFileFlag.the-variants.{Normal}
 use Rattle.nak.specs.declared.Identity.{Identity}
-use Rattle.nak.specs.declared.parser.Parsed.{Parsed}
+use Rattle.nak_parser.specs.declared.Parsed.{Parsed}
 use Rattle.nak.specs.Header.{wrongFixed, flagOf, entityLengthOf, numberLengthOf}
 use Rattle.nak.specs.Pdu.{Nak, saying, nakCode, headerLength}
 use Rattle.nak.specs.Request.{following, requestsOutcome}
 
 -- The octet at a place.
 abbrev pub octetAt : List ℕ → ℕ → ℕ
@@ -79,25 +79,36 @@ abbrev pub nakIn : List ℕ → Nak
 nakIn p = record { flag = flagIn p; identity = identityIn p; scope = scopeIn p; requests = requestsOf p }
 
 -- 16: packet not H plus the length field, or length field 0.
+abbrev pub isWrongLength : ℕ → ℕ → ℕ → Bool
+isWrongLength total h len = eqb len 0 || not (eqb total (h + len))
+
 unfoldable pub wrongLength : List ℕ → Bool
-wrongLength p = eqb (lengthField p) 0 || not (eqb (length p) (headerLengthIn p + lengthField p))
+wrongLength p = isWrongLength (length p) (headerLengthIn p) (lengthField p)
 
 -- 16: data field not 1 + 2F + a multiple of 2F.
-unfoldable pub wrongData : List ℕ → Bool
-wrongData p = ltb (lengthField p) (1 + 2 * fieldLengthIn p) || not (eqb ((lengthField p - (1 + 2 * fieldLengthIn p)) % (2 * fieldLengthIn p)) 0)
+abbrev pub isWrongData : ℕ → ℕ → Bool
+isWrongData len f = ltb len (1 + 2 * f) || not (eqb ((len - (1 + 2 * f)) % (2 * f)) 0)
 
--- Reading: below 4 octets 16; any fixed bit of octets 0 and 3 wrong 15; packet not H plus the length field, or length field 0,
--- 16; 17; data field not 1 + 2F + a multiple of 2F, 16; 18; requests in order; total above 4,096, 14.
-unfoldable pub readOutcome : List ℕ → Outcome
-readOutcome p =
+unfoldable pub wrongData : List ℕ → Bool
+wrongData p = isWrongData (lengthField p) (fieldLengthIn p)
+
+-- Reading, up to the scope: below 4 octets 16; any fixed bit of octets 0 and 3 wrong 15; packet not H plus the length field, or
+-- length field 0, 16; 17; data field not 1 + 2F + a multiple of 2F, 16.
+unfoldable pub shapeOutcome : List ℕ → Outcome
+shapeOutcome p =
     cond (ltb (length p) 4) lengthMismatch
     (cond (wrongFixed (octetAt p 0) (octetAt p 3)) badHeader
     (cond (wrongLength p) lengthMismatch
     (cond (not (eqb (octetAt p (headerLengthIn p)) nakCode)) notNak
-    (cond (wrongData p) lengthMismatch
+    (cond (wrongData p) lengthMismatch (accepted [])))))
+
+-- Reading: these, then 18; requests in order; total above 4,096, 14.
+unfoldable pub readOutcome : List ℕ → Outcome
+readOutcome p =
+    following (shapeOutcome p)
     (cond (ltb (scopeIn p .end) (scopeIn p .start)) scopeReversed
     (following (requestsOutcome (requestsOf p))
-    (cond (ltb 4096 (length p)) pduSize (accepted []))))))))
+    (cond (ltb 4096 (length p)) pduSize (accepted []))))
 
 -- What reading hands back of a refused packet: the number and what it carries, all else 0; the reader of the requests stands at
 -- its end, the packet's length.
