@@ -2,6 +2,7 @@
 -- Assumes nothing.
 use mathlib.Core.Path.{_≡_, refl, sym, ap, ap₂, _∙_}
 use mathlib.Core.Bool.{Bool, true, false, _||_, _&&_, not}
+use mathlib.Core.Logic.{⊎-elim}
 use mathlib.Core.List.{List, [], _∷_, _++_}
 use Prim.Native.Nat.{ℕ, zero, suc, _+_, _*_, _/_, _%_, _≤_, _<_}
 use native.Mathlib.Omega.{arith}
@@ -18,6 +19,7 @@ use Rattle.octets.specs.Flag.{largestOf}
 use Rattle.nak.specs.declared.Identity.{Identity}
 use Rattle.nak.specs.Pdu.{Nak, pdu}
 use Rattle.nak.specs.Request.{requestsOutcome}
+use Rattle.nak.proofs.Requests.{requests-either}
 use Rattle.nak.specs.Inner.{entries, GoodLengths}
 use Rattle.nak.specs.Writer.{isBadList, isBadLength, isBadIdentity, nakOutcome, writeOutcome}
 
@@ -117,3 +119,28 @@ pub all-entries : (xs : List ℕ) → length xs % 2 ≡ 0 → entries false xs 0
 all-entries xs e =
     let k : 2 * (length xs / 2) ≡ length xs = omega arith in
     rw (k, take-length)
+
+-- what a NAK that is not refused says
+pub record NakFine (n : Nak) : Type 0 where
+  pub identity : isBadIdentity (n .identity) ≡ false
+  pub scope : n .scope .start ≤ n .scope .end
+  pub requests : requestsOutcome (n .requests) ≡ accepted []
+  pub numbers : anyAbove (largestOf (n .flag)) (numbersOf n) ≡ false
+  pub size : length (pdu n) ≤ 4096
+
+pub nak-of : (n : Nak) → nakOutcome n .number ≡ 0 → NakFine n
+nak-of n z =
+    let a = must-be-false (isBadIdentity (n .identity)) (λ t. not-both (nak-13 n t) z) in
+    let b : n .scope .start ≤ n .scope .end = ltb-false (n .scope .end) (n .scope .start) (must-be-false _ (λ t. not-both (nak-18 n a (ltb-true (n .scope .end) (n .scope .start) t)) z)) in
+    let c : requestsOutcome (n .requests) ≡ accepted [] = ⊎-elim (λ x. x) (λ y. absurd (not-both (nak-request n a b (y .0) (y .1 .0) (y .1 .1)) z)) (requests-either true (n .requests)) in
+    let d = must-be-false (anyAbove (largestOf (n .flag)) (numbersOf n)) (λ t. not-both (nak-7 n a b c t) z) in
+    record {
+      identity = a;
+      scope = b;
+      requests = c;
+      numbers = d;
+      size = ltb-false 4096 (length (pdu n)) (must-be-false _ (λ t. not-both (nak-14 n a b c d (ltb-true 4096 (length (pdu n)) t)) z));
+    }
+
+pub fine-nak : (n : Nak) → NakFine n → nakOutcome n ≡ accepted []
+fine-nak n f = nak-fine n (f .identity) (f .scope) (f .requests) (f .numbers) (f .size)

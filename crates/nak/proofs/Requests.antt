@@ -1,14 +1,15 @@
 -- The requests of a NAK, one after the other.
 -- Assumes nothing.
 use mathlib.Core.Path.{_≡_, refl, sym, ap, ap₂, _∙_}
-use mathlib.Core.Bool.{Bool, true, false, _&&_, not}
+use mathlib.Core.Bool.{Bool, true, false, _&&_, not, cond}
+use mathlib.Core.Logic.{_⊎_, inl, inr, ⊎-elim}
 use mathlib.Core.List.{List, [], _∷_, _++_}
 use Prim.Native.Nat.{ℕ, zero, suc, _+_, _*_, _≤_, _<_}
 use native.Mathlib.Omega.{arith}
 use lib.Dec.{eqb, ltb}
 use borrow.Author.Tests.{lt-ltb, le-ltb, eq-eqb, ne-eqb}
 use Rattle.ranges.specs.Range.{Range, range}
-use Rattle.ranges.specs.Outcome.{Outcome, accepted, emptySegment, startLargerThanEnd}
+use Rattle.ranges.specs.Outcome.{Outcome, accepted, refused, emptySegment, startLargerThanEnd}
 use Rattle.nak.specs.Request.{isMetadata, requestOutcome, requestsFrom}
 
 -- the list's answer where its first request is refused
@@ -36,3 +37,21 @@ first-empty i s e p q = rw (← p, eq-eqb i 0 q, eq-eqb s s refl) (go (eqb s 0))
     go : (t : Bool) → not t ≡ not (t && t)
     go true = refl
     go false = refl
+
+one-either : (first : Bool) (r : Range) → (requestOutcome first r ≡ accepted []) ⊎ ((k : ℕ) × ((vs : List ℕ) × (requestOutcome first r ≡ refused (suc k) vs)))
+unfolding requestOutcome
+one-either first r = go (ltb (r .end) (r .start)) (eqb (r .start) (r .end) && not (first && isMetadata r))
+  where
+    go : (a b : Bool) → (cond a (startLargerThanEnd (r .start) (r .end)) (cond b emptySegment (accepted [])) ≡ accepted []) ⊎ ((k : ℕ) × ((vs : List ℕ) × (cond a (startLargerThanEnd (r .start) (r .end)) (cond b emptySegment (accepted [])) ≡ refused (suc k) vs)))
+    go true b = inr (2, (r .start ∷ r .end ∷ [], refl))
+    go false true = inr (1, ([], refl))
+    go false false = inl refl
+
+-- a list of requests is accepted or refused
+pub requests-either : (first : Bool) (rs : List Range) → (requestsFrom first rs ≡ accepted []) ⊎ ((k : ℕ) × ((vs : List ℕ) × (requestsFrom first rs ≡ refused (suc k) vs)))
+requests-either first [] = inl refl
+requests-either first (r ∷ rs) =
+    ⊎-elim
+    (λ a. rw a (requests-either false rs))
+    (λ b. inr (b .0, (b .1 .0, rw (b .1 .1, ne-eqb (suc (b .0)) 0 (λ e. omega arith)))))
+    (one-either first r)

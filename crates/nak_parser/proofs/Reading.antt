@@ -2,6 +2,7 @@
 -- Assumes nothing.
 use mathlib.Core.Path.{_≡_, refl, sym, ap, ap₂, _∙_}
 use mathlib.Core.Bool.{Bool, true, false, not, cond}
+use mathlib.Core.Logic.{⊎-elim}
 use mathlib.Core.List.{List, [], _∷_, _++_}
 use Prim.Native.Nat.{ℕ, zero, suc, _+_, _*_, _-_, _/_, _%_, _≤_, _<_}
 use native.Mathlib.Nat.{mul-div-le, mod-lt}
@@ -20,6 +21,7 @@ use Rattle.octets.proofs.Fields.{number-below, octets-take, octets-drop}
 use Rattle.nak.specs.Header.{wrongFixed, flagOf, entityLengthOf, numberLengthOf}
 use Rattle.nak.specs.Pdu.{nakCode}
 use Rattle.nak.specs.Request.{requestsOutcome}
+use Rattle.nak.proofs.Requests.{requests-either}
 use Rattle.nak.proofs.Checks.{neither, must-be-false, not-both}
 use Rattle.nak_parser.specs.Parser.{octetAt, fieldAt, flagIn, fieldLengthIn, entityLengthIn, numberLengthIn, headerLengthIn, lengthField, scopeAt, requestsAt, requestsIn, scopeIn, requestsOf, wrongLength, wrongData, shapeOutcome, readOutcome, refusedParsed, parsedOf}
 
@@ -197,3 +199,29 @@ module _ (p : List ℕ) where
   pub parsed-shape : (shapeOutcome p .number ≡ 0 → ⊥) → parsedOf p ≡ refusedParsed (shapeOutcome p .number) 0 0 (length p)
   unfolding parsedOf readOutcome
   parsed-shape h = rw (ne-eqb (shapeOutcome p .number) 0 h, ne-eqb (shapeOutcome p .number) 0 h, shape-values)
+
+-- a packet that is accepted
+pub record Read (p : List ℕ) : Type 0 where
+  pub shape : Shape p
+  pub scope : scopeIn p .start ≤ scopeIn p .end
+  pub requests : requestsOutcome (requestsOf p) ≡ accepted []
+  pub size : length p ≤ 4096
+  pub outcome : readOutcome p ≡ accepted []
+
+-- a shape that is refused refuses
+shape-number : (p : List ℕ) → readOutcome p .number ≡ 0 → shapeOutcome p .number ≡ 0
+unfolding readOutcome
+shape-number p z = go (eqb (shapeOutcome p .number) 0) refl
+  where
+    go : (t : Bool) → eqb (shapeOutcome p .number) 0 ≡ t → shapeOutcome p .number ≡ 0
+    go true e = eqb-true (shapeOutcome p .number) 0 e
+    go false e = rw e at z
+
+pub read-of : (p : List ℕ) → readOutcome p .number ≡ 0 → Read p
+read-of p z =
+    let s = shape-of p (shape-number p z) in
+    let a = s .outcome in
+    let b : scopeIn p .start ≤ scopeIn p .end = ltb-false (scopeIn p .end) (scopeIn p .start) (must-be-false _ (λ t. not-both (read-18 p a (ltb-true (scopeIn p .end) (scopeIn p .start) t)) z)) in
+    let c : requestsOutcome (requestsOf p) ≡ accepted [] = ⊎-elim (λ x. x) (λ y. absurd (not-both (read-request p a b (y .0) (y .1 .0) (y .1 .1)) z)) (requests-either true (requestsOf p)) in
+    let d : length p ≤ 4096 = ltb-false 4096 (length p) (must-be-false _ (λ t. not-both (read-14 p a b c (ltb-true 4096 (length p) t)) z)) in
+    record { shape = s; scope = b; requests = c; size = d; outcome = read-fine p a b c d }

@@ -4,8 +4,9 @@ use mathlib.Core.Bool.{Bool, _||_, not, cond}
 use mathlib.Core.List.{List, [], _∷_}
 use lib.Dec.{eqb, ltb}
 use lib.ListN.{length, getD, take, drop}
+use denote.Ref.{RefT, ptr, now}
 use Rattle.ranges.specs.Range.{Range, range}
-use Rattle.ranges.specs.Outcome.{Outcome, accepted, lengthMismatch, badHeader, notNak, scopeReversed, pduSize}
+use Rattle.ranges.specs.Outcome.{Outcome, accepted, lent, lengthMismatch, badHeader, notNak, scopeReversed, pduSize}
 use Rattle.octets.specs.Octets.{number}
 use Rattle.octets.specs.Flag.{fieldLength}
 use Rattle.octets.specs.declared.LargeFileFlag.{LargeFileFlag}
@@ -148,3 +149,11 @@ parsed o p = cond (eqb (o .number) 0) (acceptedParsed p) (refusedParsed (o .numb
 
 unfoldable pub parsedOf : List ℕ → Parsed
 parsedOf p = parsed (readOutcome p) p
+
+-- The requests as the caller's own octets: the part of an accepted packet from behind the scope to its end, and of a refused one
+-- an empty part at octet 0. The octets of the part, and where it starts in the caller's memory.
+abbrev pub requestsPart : List ℕ → List ℕ
+requestsPart p = lent (readOutcome p) (drop (requestsAt p) p) []
+
+abbrev pub requestsPtr : RefT (List ℕ) → ℕ × ℕ
+requestsPtr p = (ptr p .0, lent (readOutcome (now p)) (requestsAt (now p)) 0 + ptr p .1)

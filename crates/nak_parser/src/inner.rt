@@ -4,8 +4,9 @@ use nak::inner::is_empty;
 use octets::LargeFileFlag;
 use octets::inner::get;
 ghost use mathlib.Core.Path.{_≡_};
-ghost use Prim.Native.Nat.{_+_, _*_, _≤_, _<_};
-ghost use lib.ListN.{length, drop};
+ghost use Prim.Native.Nat.{_+_, _*_, _-_, _≤_, _<_};
+ghost use lib.ListN.{length, take, drop};
+ghost use denote.Ref.{ptr};
 ghost use Rattle.nak.specs.Header.{wrongFixed};
 ghost use Rattle.nak.specs.Request.{requestsCase, requestsOutcome};
 ghost use Rattle.nak_parser.specs.Parser.{flagIn, fieldLengthIn, entityLengthIn, numberLengthIn, headerLengthIn, lengthField, requestsIn, identityIn, isWrongLength, isWrongData, shapeOutcome, refusedParsed};
@@ -181,4 +182,12 @@ pub fn refused(number: u64, start: u64, end: u64, length: usize) -> Parsed
         to: 0,
         next: length,
     }
+}
+
+// A part of a packet, the caller's own octets.
+pub fn part<'a>(packet: &'a [u8], from: usize, to: usize) -> &'a [u8]
+    requires { ⌜ (from ≤ to) × (to ≤ length (now packet)) ⌝ }
+    ensures { λ r. ⌜ (now r ≡ take (to - from) (drop from (now (packet .entry)))) × (ptr r ≡ (ptr (packet .entry) .0, from + ptr (packet .entry) .1)) ⌝ }
+{
+    &packet[from..to]
 }

@@ -4,8 +4,9 @@ use nak::inner::RequestsAnswer;
 use octets::LargeFileFlag;
 use octets::inner::get;
 ghost use mathlib.Core.Path.{_≡_};
-ghost use lib.ListN.{length};
-ghost use Rattle.nak_parser.specs.Parser.{parsedOf};
+ghost use denote.Ref.{ptr};
+ghost use Rattle.nak_parser.specs.Parser.{parsedOf, requestsPart, requestsPtr};
+ghost use Rattle.nak_parser.specs.Step.{stepCase, stepOutcome, placeAfter};
 
 pub mod inner;
 
@@ -67,5 +68,51 @@ pub fn parse(packet: &[u8]) -> Parsed
         from,
         to: total,
         next: from,
+    }
+}
+
+// The part of the packet that holds the requests, the caller's own octets.
+pub fn requests<'a>(packet: &'a [u8]) -> &'a [u8]
+    ensures { λ r. ⌜ (now r ≡ requestsPart (now (packet .entry))) × (ptr r ≡ requestsPtr (packet .entry)) ⌝ }
+{
+    let parsed = parse(packet);
+    inner::part(packet, parsed.from, parsed.to)
+}
+
+// What a step of a reader finds.
+pub enum Step {
+    Request(u64, u64),
+    End,
+}
+
+// And the place after it.
+pub struct Found {
+    pub step: Step,
+    pub at: usize,
+}
+
+// A step from any place of any octets.
+pub fn next_at(packet: &[u8], at: usize) -> Found
+    ensures { λ r. ⌜ (stepCase (r .step) ≡ stepOutcome (now (packet .entry)) at) × (r .at ≡ placeAfter (now (packet .entry)) at) ⌝ }
+{
+    let total = packet.len();
+    if total <= at {
+        return Found {
+            step: Step::End,
+            at,
+        };
+    }
+    let f = inner::field_length_in(packet);
+    if total - at < 2 * f {
+        return Found {
+            step: Step::End,
+            at,
+        };
+    }
+    let start = get(packet, at, f);
+    let end = get(packet, at + f, f);
+    Found {
+        step: Step::Request(start, end),
+        at: at + 2 * f,
     }
 }

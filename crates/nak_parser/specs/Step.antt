@@ -1,0 +1,28 @@
+-- A step of a reader over a packet (document 01, "Each later step of the reader gives one request or says it is at the end").
+use Prim.Native.Nat.{ℕ, _+_, _*_, _-_}
+use mathlib.Core.Bool.{Bool, cond}
+use mathlib.Core.List.{List, [], _∷_}
+use lib.Dec.{ltb}
+use lib.ListN.{length}
+use Rattle.ranges.specs.Outcome.{Outcome, accepted}
+use Rattle.nak_parser.specs.declared.Step.{Step}
+use Rattle.nak_parser.specs.declared.Step.the-variants.{Request, End}
+use Rattle.nak_parser.specs.Parser.{fieldAt, fieldLengthIn}
+
+-- Any reader with less than one request left is at its end: fewer than 2F octets from its place to the packet's end. F is that of
+-- the packet's large file flag; behind the packet's end there are no octets.
+unfoldable pub atEnd : List ℕ → ℕ → Bool
+atEnd p at = ltb (length p - at) (2 * fieldLengthIn p)
+
+-- A step gives the request at the place, start and end, or says that it is at the end.
+unfoldable pub stepOutcome : List ℕ → ℕ → Outcome
+stepOutcome p at = cond (atEnd p at) (accepted []) (accepted (fieldAt p at (fieldLengthIn p) ∷ fieldAt p (at + fieldLengthIn p) (fieldLengthIn p) ∷ []))
+
+-- The place after it: behind the request, and at the end as it was.
+unfoldable pub placeAfter : List ℕ → ℕ → ℕ
+placeAfter p at = cond (atEnd p at) at (at + 2 * fieldLengthIn p)
+
+-- The values of each case; there is no refusal.
+abbrev pub stepCase : Step → Outcome
+stepCase (Request start end) = accepted (start ∷ end ∷ [])
+stepCase End = accepted []
