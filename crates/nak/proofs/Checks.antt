@@ -4,7 +4,7 @@ use mathlib.Core.Path.{_≡_, refl, sym, ap, ap₂, _∙_}
 use mathlib.Core.Bool.{Bool, true, false, _||_, _&&_, not}
 use mathlib.Core.Logic.{⊎-elim}
 use mathlib.Core.List.{List, [], _∷_, _++_}
-use Prim.Native.Nat.{ℕ, zero, suc, _+_, _*_, _/_, _%_, _≤_, _<_}
+use Prim.Native.Nat.{ℕ, zero, suc, _+_, _*_, _/_, _%_, _^_, _≤_, _<_}
 use native.Mathlib.Omega.{arith}
 use lib.Dec.{eqb, ltb}
 use lib.ListN.{length, take, drop}
@@ -113,6 +113,41 @@ good-lengths d e =
     let i = good-length (d .«entity_length») (t .0) in
     let q = good-length (d .«number_length») (u .0) in
     record { entity-low = i .0; entity-high = i .1; number-low = q .0; number-high = q .1 }
+
+-- each of its numbers fits
+pub record GoodNumbers (d : Identity) : Type 0 where
+  pub source : d .source < 256 ^ d .«entity_length»
+  pub number : d .number < 256 ^ d .«number_length»
+  pub destination : d .destination < 256 ^ d .«entity_length»
+
+pub good-numbers : (d : Identity) → isBadIdentity d ≡ false → GoodNumbers d
+unfolding isBadIdentity
+good-numbers d e =
+    let t = neither (isBadLength (d .«entity_length»)) _ e in
+    let u = neither (isBadLength (d .«number_length»)) _ (t .1) in
+    let v = neither (not (fits (d .«entity_length») (d .source))) _ (u .1) in
+    let w = neither (not (fits (d .«number_length») (d .number))) _ (v .1) in
+    record {
+      source = ltb-true _ _ (not-false _ (v .0));
+      number = ltb-true _ _ (not-false _ (w .0));
+      destination = ltb-true _ _ (not-false _ (w .1))
+    }
+
+-- and the other way round
+pub not-bad-identity : (d : Identity) → GoodLengths d → GoodNumbers d → isBadIdentity d ≡ false
+unfolding isBadIdentity
+not-bad-identity d l n =
+    let i = l .entity-low in
+    let q = l .number-low in
+    rw (
+      ne-eqb (d .«entity_length») 0 (λ z. omega arith),
+      le-ltb 8 (d .«entity_length») (l .entity-high),
+      ne-eqb (d .«number_length») 0 (λ z. omega arith),
+      le-ltb 8 (d .«number_length») (l .number-high),
+      lt-ltb (d .source) (256 ^ d .«entity_length») (n .source),
+      lt-ltb (d .number) (256 ^ d .«number_length») (n .number),
+      lt-ltb (d .destination) (256 ^ d .«entity_length») (n .destination)
+    )
 
 -- all pairs of a list of even length
 pub all-entries : (xs : List ℕ) → length xs % 2 ≡ 0 → entries false xs 0 (length xs / 2) ≡ pairs xs

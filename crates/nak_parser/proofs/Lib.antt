@@ -1,3 +1,4 @@
 pub mod Turn
 pub mod Reading
 pub mod Handed
+pub mod Back
