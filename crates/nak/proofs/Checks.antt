@@ -1,15 +1,15 @@
 -- The answers of writing, one for each check that refuses, and the one where none does.
 -- Assumes nothing.
 use mathlib.Core.Path.{_≡_, refl, sym, ap, ap₂, _∙_}
-use mathlib.Core.Bool.{Bool, true, false, _||_, _&&_, not}
-use mathlib.Core.Logic.{⊎-elim}
+use mathlib.Core.Bool.{Bool, true, false, _||_, not, cond}
+use mathlib.Core.Logic.{_⊎_, inl, inr, ⊎-elim}
 use mathlib.Core.List.{List, [], _∷_, _++_}
 use Prim.Native.Nat.{ℕ, zero, suc, _+_, _*_, _/_, _%_, _^_, _≤_, _<_}
 use native.Mathlib.Omega.{arith}
 use lib.Dec.{eqb, ltb}
 use lib.ListN.{length, take, drop}
 use lib.Seq.{take-length}
-use borrow.Author.Tests.{eqb-false, ltb-false, ltb-true, lt-ltb, le-ltb, eq-eqb, ne-eqb, not-false}
+use borrow.Author.Tests.{eqb-false, ltb-false, ltb-true, lt-ltb, le-ltb, eq-eqb, ne-eqb, eqb-true, not-true, not-false}
 use Rattle.ranges.specs.Range.{Range, range}
 use Rattle.ranges.specs.Store.{pairs, flat, anyAbove}
 use Rattle.ranges.specs.Outcome as to
@@ -18,7 +18,7 @@ use Rattle.octets.specs.Octets.{fits}
 use Rattle.octets.specs.Flag.{largestOf}
 use Rattle.nak.specs.declared.Identity.{Identity}
 use Rattle.nak.specs.Pdu.{Nak, pdu}
-use Rattle.nak.specs.Request.{requestsOutcome}
+use Rattle.nak.specs.Request.{following, requestsOutcome}
 use Rattle.nak.proofs.Requests.{requests-either}
 use Rattle.nak.specs.Inner.{entries, GoodLengths}
 use Rattle.nak.specs.Writer.{isBadList, isBadLength, isBadIdentity, nakOutcome, writeOutcome}
@@ -130,7 +130,7 @@ good-numbers d e =
     record {
       source = ltb-true _ _ (not-false _ (v .0));
       number = ltb-true _ _ (not-false _ (w .0));
-      destination = ltb-true _ _ (not-false _ (w .1))
+      destination = ltb-true _ _ (not-false _ (w .1));
     }
 
 -- and the other way round
@@ -146,7 +146,7 @@ not-bad-identity d l n =
       le-ltb 8 (d .«number_length») (l .number-high),
       lt-ltb (d .source) (256 ^ d .«entity_length») (n .source),
       lt-ltb (d .number) (256 ^ d .«number_length») (n .number),
-      lt-ltb (d .destination) (256 ^ d .«entity_length») (n .destination)
+      lt-ltb (d .destination) (256 ^ d .«entity_length») (n .destination),
     )
 
 -- all pairs of a list of even length
@@ -179,3 +179,33 @@ nak-of n z =
 
 pub fine-nak : (n : Nak) → NakFine n → nakOutcome n ≡ accepted []
 fine-nak n f = nak-fine n (f .identity) (f .scope) (f .requests) (f .numbers) (f .size)
+
+-- a PDU that was written
+pub record Accepted (xs : List ℕ) (n : Nak) (given : ℕ) : Type 0 where
+  pub list : isBadList xs ≡ false
+  pub says : nakOutcome n .number ≡ 0
+  pub size : given ≡ length (pdu n)
+  pub outcome : writeOutcome xs n given ≡ accepted (length (pdu n) ∷ [])
+
+nak-either : (n : Nak) → (nakOutcome n ≡ accepted []) ⊎ ((k : ℕ) × ((vs : List ℕ) × (nakOutcome n ≡ refused (suc k) vs)))
+unfolding nakOutcome
+nak-either n = go (isBadIdentity (n .identity)) (ltb (n .scope .end) (n .scope .start)) (requests-either true (n .requests)) (anyAbove (largestOf (n .flag)) (numbersOf n)) (ltb 4096 (length (pdu n)))
+  where
+    rest : Bool → Bool → Outcome
+    rest d e = cond d to.largeSegmentForNormalFileSize (cond e to.pduSize (accepted []))
+
+    go : (a b : Bool) → ((requestsOutcome (n .requests) ≡ accepted []) ⊎ ((k : ℕ) × ((vs : List ℕ) × (requestsOutcome (n .requests) ≡ refused (suc k) vs)))) → (d e : Bool)
+        → (cond a to.badIdentity (cond b to.scopeReversed (following (requestsOutcome (n .requests)) (rest d e))) ≡ accepted []) ⊎ ((k : ℕ) × ((vs : List ℕ) × (cond a to.badIdentity (cond b to.scopeReversed (following (requestsOutcome (n .requests)) (rest d e))) ≡ refused (suc k) vs)))
+    go true b c d e = inr (12, ([], refl))
+    go false true c d e = inr (17, ([], refl))
+    go false false (inr c) d e = inr (c .0, (c .1 .0, rw (c .1 .1, not-zero (c .0))))
+    go false false (inl c) true e = inr (6, ([], rw c))
+    go false false (inl c) false true = inr (13, ([], rw c))
+    go false false (inl c) false false = inl (rw c)
+
+pub write-accepted : (xs : List ℕ) (n : Nak) (given : ℕ) → writeOutcome xs n given .number ≡ 0 → Accepted xs n given
+write-accepted xs n given z =
+    let a = must-be-false (isBadList xs) (λ t. not-both (write-10 xs n given t) z) in
+    let b : nakOutcome n ≡ accepted [] = ⊎-elim (λ x. x) (λ y. absurd (not-both (write-nak xs n given a (y .0) (y .1 .0) (y .1 .1)) z)) (nak-either n) in
+    let c : given ≡ length (pdu n) = eqb-true given (length (pdu n)) (not-false _ (must-be-false (not (eqb given (length (pdu n)))) (λ t. not-both (write-6 xs n given a b (eqb-false given (length (pdu n)) (not-true _ t))) z))) in
+    record { list = a; says = ap (λ (o : Outcome). o .number) b; size = c; outcome = write-fine xs n given a b c }

@@ -3,3 +3,4 @@ pub mod Requests
 pub mod Parts
 pub mod Puts
 pub mod Checks
+pub mod Injective

@@ -1,9 +1,10 @@
 -- A step of a reader over a packet (document 01, "Each later step of the reader gives one request or says it is at the end").
-use Prim.Native.Nat.{ℕ, _+_, _*_, _-_}
+use Prim.Native.Nat.{ℕ, zero, suc, _+_, _*_, _-_}
 use mathlib.Core.Bool.{Bool, cond}
 use mathlib.Core.List.{List, [], _∷_}
 use lib.Dec.{ltb}
 use lib.ListN.{length}
+use Rattle.ranges.specs.Range.{Range}
 use Rattle.ranges.specs.Outcome.{Outcome, accepted}
 use Rattle.nak_parser.specs.declared.Step.{Step}
 use Rattle.nak_parser.specs.declared.Step.the-variants.{Request, End}
@@ -26,3 +27,13 @@ placeAfter p at = cond (atEnd p at) at (at + 2 * fieldLengthIn p)
 abbrev pub stepCase : Step → Outcome
 stepCase (Request start end) = accepted (start ∷ end ∷ [])
 stepCase End = accepted []
+
+-- What k steps from a place give, one after the other.
+abbrev pub steps : List ℕ → ℕ → ℕ → List Outcome
+steps p at zero = []
+steps p at (suc k) = stepOutcome p at ∷ steps p (placeAfter p at) k
+
+-- What a reader of these requests gives: each of them.
+abbrev pub givings : List Range → List Outcome
+givings [] = []
+givings (r ∷ rs) = accepted (r .start ∷ r .end ∷ []) ∷ givings rs
