@@ -35,7 +35,7 @@ pub fn read<'a>(packet: &'a [u8]) -> ReadNak<'a>
         × (ptr (r .requests) ≡ requestsPtr (packet .entry)))) ⌝ }
 {
     let parsed = nak_parser::parse(packet);
-    let requests = nak_parser::requests(packet);
+    let requests = nak_parser::inner::part(packet, parsed.from, parsed.to);
     ReadNak {
         parsed,
         reader: NakReader {
