@@ -1,24 +1,23 @@
 -- Parts written side by side make the header, the identity, the data field, the PDU.
 -- Assumes nothing.
-use mathlib.Core.Path.{_≡_, refl, sym, ap, ap₂, _∙_}
-use mathlib.Core.Bool.{Bool, true, false}
-use mathlib.Core.List.{List, [], _∷_, _++_, append-assoc, append-nil}
-use Prim.Native.Nat.{ℕ, zero, suc, _+_, _*_, _-_, _≤_, _<_}
+use mathlib.Core.Path.{_≡_, refl, sym, ap, _∙_}
+use mathlib.Core.Bool.{Bool, true}
+use mathlib.Core.List.{List, _++_, append-assoc, append-nil}
+use Prim.Native.Nat.{ℕ, _+_, _*_, _≤_}
 use native.Mathlib.Omega.{arith}
 use lib.ListN.{length, take, drop, length-append}
-use Rattle.ranges.specs.Range.{Range, range}
+use Rattle.ranges.specs.Range.{range}
 use Rattle.ranges.specs.Store.{flat}
 use Rattle.octets.specs.Octets.{field, fields, withOctets}
-use Rattle.octets.specs.Flag.{fieldLength}
 use Rattle.octets.specs.declared.LargeFileFlag.{LargeFileFlag}
 use Rattle.octets.specs.declared.LargeFileFlag.the-variants.{Normal, Large}
-use Rattle.octets.proofs.Fields.{length-field, length-fields, fields-append}
-use Rattle.octets.proofs.Over.{over-then, over-nothing}
+use Rattle.octets.proofs.Fields.{length-field, fields-append}
+use Rattle.octets.proofs.Over.{over-then}
 use Rattle.nak.specs.declared.Identity.{Identity}
 use Rattle.nak.specs.Header.{flagBit, octet0, octet3}
-use Rattle.nak.specs.Pdu.{Nak, saying, nakCode, headerOctets, identityOctets, dataOctets, dataField, pdu}
+use Rattle.nak.specs.Pdu.{Nak, nakCode, headerOctets, identityOctets, dataOctets, dataField, pdu}
 use Rattle.nak.specs.Inner.{asked, entries}
-use Rattle.nak.proofs.Parts.{length-header, length-identity, length-data, length-pdu, flat-entries, length-entries}
+use Rattle.nak.proofs.Parts.{length-header, length-identity, flat-entries}
 
 pub flag-low : (g : LargeFileFlag) → flagBit g ≤ 1
 flag-low Normal = omega arith

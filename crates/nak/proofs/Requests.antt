@@ -1,15 +1,15 @@
 -- The requests of a NAK, one after the other.
 -- Assumes nothing.
-use mathlib.Core.Path.{_≡_, refl, sym, ap, ap₂, _∙_}
+use mathlib.Core.Path.{_≡_, refl}
 use mathlib.Core.Bool.{Bool, true, false, _&&_, not, cond}
 use mathlib.Core.Logic.{_⊎_, inl, inr, ⊎-elim}
-use mathlib.Core.List.{List, [], _∷_, _++_}
-use Prim.Native.Nat.{ℕ, zero, suc, _+_, _*_, _≤_, _<_}
+use mathlib.Core.List.{List, [], _∷_}
+use Prim.Native.Nat.{ℕ, suc, _+_, _≤_, _<_}
 use native.Mathlib.Omega.{arith}
 use lib.Dec.{eqb, ltb}
 use borrow.Author.Tests.{lt-ltb, le-ltb, eq-eqb, ne-eqb}
 use Rattle.ranges.specs.Range.{Range, range}
-use Rattle.ranges.specs.Outcome.{Outcome, accepted, refused, emptySegment, startLargerThanEnd}
+use Rattle.ranges.specs.Outcome.{accepted, refused, emptySegment, startLargerThanEnd}
 use Rattle.nak.specs.Request.{isMetadata, requestOutcome, requestsFrom}
 
 -- the list's answer where its first request is refused

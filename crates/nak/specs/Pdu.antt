@@ -1,6 +1,6 @@
 -- The NAK PDU as a list of octets (document 01, "The NAK PDU"; Blue Book, PDU header and 5.2.6).
 use Prim.Native.Nat.{ℕ, _+_, _*_}
-use mathlib.Core.List.{List, [], _∷_, _++_}
+use mathlib.Core.List.{List, _∷_, _++_}
 use lib.ListN.{length}
 use Rattle.ranges.specs.Range.{Range, range}
 use Rattle.ranges.specs.Store.{flat}

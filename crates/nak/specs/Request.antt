@@ -1,5 +1,4 @@
 -- What the requests of a NAK may be (document 01, "each request in order").
-use Prim.Native.Nat.{ℕ}
 use mathlib.Core.Bool.{Bool, true, false, _&&_, not, cond}
 use mathlib.Core.List.{List, [], _∷_}
 use lib.Dec.{eqb, ltb}

@@ -1,10 +1,9 @@
 -- Writing one PDU (document 01, "Writing one PDU").
 use Prim.Native.Nat.{ℕ, _%_}
 use mathlib.Core.Bool.{Bool, _||_, not, cond}
-use mathlib.Core.List.{List, [], _∷_, _++_}
+use mathlib.Core.List.{List, [], _∷_}
 use lib.Dec.{eqb, ltb}
 use lib.ListN.{length}
-use Rattle.ranges.specs.Range.{Range, range}
 use Rattle.ranges.specs.Store.{flat, anyAbove}
 use Rattle.ranges.specs.Outcome as to
 use Rattle.ranges.specs.Outcome.{Outcome, accepted, lent}

@@ -1,31 +1,29 @@
 -- Reading a PDU: each field that was written comes back.
 -- Assumes nothing.
-use mathlib.Core.Path.{_≡_, refl, sym, ap, ap₂, _∙_}
-use mathlib.Core.Bool.{Bool, true, false, not}
-use mathlib.Core.List.{List, [], _∷_, _++_, append-assoc, append-nil}
-use Prim.Native.Nat.{ℕ, zero, suc, _+_, _*_, _-_, _/_, _%_, _^_, _≤_, _<_}
+use mathlib.Core.Path.{_≡_, refl, sym, ap, _∙_}
+use mathlib.Core.Bool.{false}
+use mathlib.Core.List.{List, [], _∷_, _++_, append-assoc}
+use Prim.Native.Nat.{ℕ, _+_, _*_, _-_, _/_, _%_, _^_, _≤_, _<_}
 use native.Mathlib.Omega.{arith}
-use lib.Dec.{eqb, ltb}
-use lib.ListN.{length, getD, take, drop, length-append, length-drop}
+use lib.Dec.{ltb}
+use lib.ListN.{length, getD, drop, length-append}
 use lib.Seq.{take-at, drop-at, getD-at}
-use borrow.Author.Tests.{eqb-true, eqb-false, ltb-false, ltb-true, lt-ltb, le-ltb, eq-eqb, ne-eqb, not-false}
-use Rattle.ranges.specs.Range.{Range, range}
+use borrow.Author.Tests.{ltb-false, le-ltb, eq-eqb, ne-eqb}
+use Rattle.ranges.specs.Range.{Range}
 use Rattle.ranges.specs.Store.{flat, anyAbove}
 use Rattle.ranges.specs.Outcome.{accepted}
-use Rattle.octets.specs.Octets.{field, fields, number, fits}
+use Rattle.octets.specs.Octets.{field, fields, number}
 use Rattle.octets.specs.Flag.{fieldLength, largestOf}
 use Rattle.octets.specs.declared.LargeFileFlag.{LargeFileFlag}
 use Rattle.octets.specs.declared.LargeFileFlag.the-variants.{Normal, Large}
-use Rattle.octets.proofs.Fields.{length-field, length-fields, got-put}
+use Rattle.octets.proofs.Fields.{length-field, got-put}
 use Rattle.octets.proofs.Largest.{largest-fits}
-use Rattle.nak.specs.declared.Identity.{Identity}
-use Rattle.nak.specs.Header.{wrongFixed, octet0, octet3, flagOf, entityLengthOf, numberLengthOf}
+use Rattle.nak.specs.Header.{wrongFixed, octet0, octet3, flagOf}
 use Rattle.nak.specs.Pdu.{Nak, nakCode, headerOctets, identityOctets, dataOctets, header, dataField, pdu}
 use Rattle.nak.specs.Inner.{GoodLengths}
-use Rattle.nak.specs.Writer.{isBadLength, isBadIdentity}
 use Rattle.nak.proofs.Flat.{length-flat}
-use Rattle.nak.proofs.Parts.{length-header, length-identity, length-data, length-pdu}
-use Rattle.nak.proofs.Checks.{neither, good-lengths, GoodNumbers, good-numbers, numbersOf, NakFine}
+use Rattle.nak.proofs.Parts.{length-header, length-data, length-pdu}
+use Rattle.nak.proofs.Checks.{neither, good-lengths, GoodNumbers, good-numbers, NakFine}
 use Rattle.nak_parser.specs.Parser.{octetAt, fieldAt, flagIn, fieldLengthIn, entityLengthIn, numberLengthIn, headerLengthIn, lengthField, scopeAt, requestsAt, requestsIn, identityIn, scopeIn, requestsOf, nakIn, wrongLength, wrongData, shapeOutcome, readOutcome}
 use Rattle.nak_parser.proofs.Handed.{requests-at}
 use Rattle.nak_parser.proofs.Reading.{header-is, shape-fine, read-fine}

@@ -1,34 +1,29 @@
 -- Writing what was read: every octet of an accepted packet comes back.
 -- Assumes nothing.
-use mathlib.Core.Path.{_≡_, refl, sym, ap, ap₂, _∙_}
+use mathlib.Core.Path.{_≡_, refl, sym, ap, _∙_}
 use mathlib.Core.Bool.{Bool, true, false, not}
-use mathlib.Core.List.{List, [], _∷_, _++_, append-assoc, append-nil}
+use mathlib.Core.List.{List, [], _∷_, _++_, append-assoc}
 use Prim.Native.Nat.{ℕ, zero, suc, _+_, _*_, _-_, _/_, _%_, _^_, _≤_, _<_}
 use native.Mathlib.Nat.{mod-eq-of-lt, suc-mul, div-div-eq-div-mul}
-use native.Mathlib.Numerals.{add-one}
 use native.Mathlib.Omega.{arith}
-use lib.Dec.{eqb, ltb}
-use lib.ListN.{length, getD, take, drop, length-append, length-drop, take-append-drop, List·getD-eq-default}
-use lib.Seq.{take-at, drop-at, drop-cons, drop-drop, length-take-le}
-use borrow.Author.Tests.{eqb-true, eqb-false, ltb-false, ltb-true, lt-ltb, le-ltb, eq-eqb, ne-eqb, not-false}
-use Rattle.ranges.specs.Range.{Range, range}
-use Rattle.ranges.specs.Store.{flat, anyAbove}
-use Rattle.ranges.specs.Outcome.{accepted}
-use Rattle.octets.specs.Octets.{field, fields, number, fits, AllOctets}
-use Rattle.octets.specs.Flag.{fieldLength, largestOf}
+use lib.Dec.{eqb}
+use lib.ListN.{length, getD, take, drop, length-drop, take-append-drop}
+use lib.Seq.{drop-cons, drop-drop, length-take-le}
+use borrow.Author.Tests.{eqb-true, eqb-false, not-false}
+use Rattle.ranges.specs.Store.{flat}
+use Rattle.octets.specs.Octets.{field, fields, AllOctets}
+use Rattle.octets.specs.Flag.{fieldLength}
 use Rattle.octets.specs.declared.LargeFileFlag.{LargeFileFlag}
 use Rattle.octets.specs.declared.LargeFileFlag.the-variants.{Normal, Large}
-use Rattle.octets.proofs.Fields.{length-field, length-fields, put-got, number-below, octets-take, octets-drop}
-use Rattle.octets.proofs.Largest.{fits-largest}
-use Rattle.nak.specs.declared.Identity.{Identity}
+use Rattle.octets.proofs.Fields.{put-got, number-below, octets-take, octets-drop}
 use Rattle.nak.specs.Header.{wrongFixed, fixedBits0, fixedBits3, octet0, octet3, flagOf, entityLengthOf, numberLengthOf}
-use Rattle.nak.specs.Pdu.{Nak, nakCode, headerOctets, identityOctets, dataOctets, header, dataField, pdu}
+use Rattle.nak.specs.Pdu.{nakCode, headerOctets, identityOctets, dataOctets, dataField, pdu}
 use Rattle.nak.proofs.Flat.{length-flat}
 use Rattle.nak.proofs.Parts.{length-data}
 use Rattle.nak.proofs.Checks.{neither}
-use Rattle.nak_parser.specs.Parser.{octetAt, fieldAt, flagIn, fieldLengthIn, entityLengthIn, numberLengthIn, headerLengthIn, lengthField, scopeAt, requestsAt, requestsIn, identityIn, scopeIn, requestsOf, nakIn, wrongLength, wrongData, shapeOutcome, readOutcome}
+use Rattle.nak_parser.specs.Parser.{octetAt, fieldAt, flagIn, fieldLengthIn, entityLengthIn, numberLengthIn, headerLengthIn, lengthField, scopeAt, requestsAt, requestsIn, identityIn, scopeIn, requestsOf, nakIn}
 use Rattle.nak_parser.proofs.Handed.{requests-at}
-use Rattle.nak_parser.proofs.Reading.{Shape, Read, header-is, field-low, field-high}
+use Rattle.nak_parser.proofs.Reading.{Read, header-is}
 
 -- an octet of octets is below 256
 pub octet-low : (p : List ℕ) (k : ℕ) → AllOctets p → getD p k 0 < 256

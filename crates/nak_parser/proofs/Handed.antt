@@ -1,6 +1,6 @@
 -- What is handed back of a packet, accepted or refused; the places of its requests.
 -- Assumes nothing.
-use mathlib.Core.Path.{_≡_, refl, sym, ap, ap₂, _∙_}
+use mathlib.Core.Path.{_≡_, refl}
 use mathlib.Core.Bool.{Bool, true, false}
 use mathlib.Core.List.{List, []}
 use Prim.Native.Nat.{ℕ, _+_, _*_, _-_, _≤_, _<_}
@@ -8,11 +8,11 @@ use native.Mathlib.Omega.{arith}
 use lib.Dec.{eqb}
 use lib.ListN.{length, getD, take, drop, length-drop}
 use lib.Seq.{take-all}
-use borrow.Author.Tests.{eqb-true, eqb-false, eq-eqb, ne-eqb, le-ltb, lt-ltb}
+use borrow.Author.Tests.{eqb-true, eqb-false, ne-eqb, le-ltb, lt-ltb}
 use Rattle.ranges.specs.Outcome.{accepted, lent}
 use Rattle.nak_parser.specs.Parser.{fieldLengthIn, headerLengthIn, scopeAt, requestsAt, readOutcome, acceptedParsed, refusedParsed, parsedOf, requestsPart}
 use Rattle.nak_parser.specs.Step.{atEnd}
-use Rattle.nak_parser.proofs.Reading.{Shape, Read, read-of, field-low}
+use Rattle.nak_parser.proofs.Reading.{Read, read-of}
 
 pub requests-at : (p : List ℕ) → requestsAt p ≡ headerLengthIn p + 1 + 2 * fieldLengthIn p
 unfolding requestsAt scopeAt

@@ -1,24 +1,23 @@
 -- The answers of reading, one for each check that refuses, and the one where none does; and what the checks that are passed show.
 -- Assumes nothing.
-use mathlib.Core.Path.{_≡_, refl, sym, ap, ap₂, _∙_}
+use mathlib.Core.Path.{_≡_, refl}
 use mathlib.Core.Bool.{Bool, true, false, not, cond}
 use mathlib.Core.Logic.{⊎-elim}
-use mathlib.Core.List.{List, [], _∷_, _++_}
-use Prim.Native.Nat.{ℕ, zero, suc, _+_, _*_, _-_, _/_, _%_, _≤_, _<_}
-use native.Mathlib.Nat.{mul-div-le, mod-lt}
+use mathlib.Core.List.{List, []}
+use Prim.Native.Nat.{ℕ, suc, _+_, _*_, _-_, _/_, _%_, _≤_, _<_}
 use native.Mathlib.Omega.{arith}
 use lib.Dec.{eqb, ltb}
-use lib.ListN.{length, getD, take, drop, length-drop}
+use lib.ListN.{length, take, drop, length-drop}
 use lib.Seq.{length-take-le}
 use borrow.Author.Tests.{eqb-true, eqb-false, ltb-false, ltb-true, lt-ltb, le-ltb, eq-eqb, ne-eqb, not-true, not-false}
-use Rattle.ranges.specs.Range.{Range, range}
-use Rattle.ranges.specs.Outcome.{Outcome, accepted, refused, lengthMismatch, badHeader, notNak, scopeReversed, pduSize}
+use Rattle.ranges.specs.Range.{range}
+use Rattle.ranges.specs.Outcome.{accepted, refused, lengthMismatch, badHeader, notNak, scopeReversed, pduSize}
 use Rattle.octets.specs.Octets.{number, AllOctets}
 use Rattle.octets.specs.Flag.{fieldLength}
 use Rattle.octets.specs.declared.LargeFileFlag.{LargeFileFlag}
 use Rattle.octets.specs.declared.LargeFileFlag.the-variants.{Normal, Large}
 use Rattle.octets.proofs.Fields.{number-below, octets-take, octets-drop}
-use Rattle.nak.specs.Header.{wrongFixed, flagOf, entityLengthOf, numberLengthOf}
+use Rattle.nak.specs.Header.{wrongFixed}
 use Rattle.nak.specs.Pdu.{nakCode}
 use Rattle.nak.specs.Request.{requestsOutcome}
 use Rattle.nak.proofs.Requests.{requests-either}

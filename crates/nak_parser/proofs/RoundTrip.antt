@@ -1,30 +1,29 @@
 -- Writing and reading undo each other: what the writer accepts is read back whole, and what the reader accepts is written back
 -- octet for octet.
 -- Assumes nothing.
-use mathlib.Core.Path.{_≡_, refl, sym, ap, ap₂, _∙_}
-use mathlib.Core.Bool.{Bool, true, false, cond}
-use mathlib.Core.List.{List, [], _∷_, _++_}
-use Prim.Native.Nat.{ℕ, zero, suc, _+_, _*_, _-_, _/_, _%_, _^_, _≤_, _<_}
+use mathlib.Core.Path.{_≡_, refl, ap, _∙_}
+use mathlib.Core.Bool.{false}
+use mathlib.Core.List.{List, [], _∷_}
+use Prim.Native.Nat.{ℕ, zero, suc, _+_, _*_, _-_, _/_, _%_, _^_, _<_}
 use native.Mathlib.Nat.{suc-mul, div-le-self}
 use native.Mathlib.Omega.{arith}
-use lib.Dec.{eqb, ltb}
+use lib.Dec.{ltb}
 use lib.ListN.{length, drop, length-drop}
-use borrow.Author.Tests.{eqb-true, le-ltb, ne-eqb}
-use Rattle.ranges.specs.Range.{Range, range}
+use borrow.Author.Tests.{le-ltb, ne-eqb}
 use Rattle.ranges.specs.Store.{pairs, flat, anyAbove}
-use Rattle.ranges.specs.Outcome.{Outcome, accepted, lent}
+use Rattle.ranges.specs.Outcome.{Outcome, accepted}
 use Rattle.octets.specs.Octets.{AllOctets}
 use Rattle.octets.specs.Flag.{fieldLength, largestOf}
 use Rattle.octets.specs.declared.LargeFileFlag.{LargeFileFlag}
 use Rattle.octets.proofs.Fields.{octets-drop}
 use Rattle.octets.proofs.Largest.{fits-largest}
-use Rattle.nak.specs.Pdu.{Nak, saying, dataField, pdu}
+use Rattle.nak.specs.Pdu.{Nak, pdu}
 use Rattle.nak.specs.Inner.{GoodLengths}
 use Rattle.nak.specs.Writer.{isBadList, nakOutcome, writeOutcome, written}
 use Rattle.nak.proofs.Flat.{length-flat, pairs-flat}
 use Rattle.nak.proofs.Checks.{numbersOf, GoodNumbers, not-bad-identity, NakFine, nak-of, fine-nak, write-fine, write-accepted}
-use Rattle.nak_parser.specs.Parser.{fieldAt, flagIn, fieldLengthIn, entityLengthIn, numberLengthIn, headerLengthIn, lengthField, scopeAt, requestsAt, requestsIn, identityIn, scopeIn, requestsOf, nakIn, readOutcome}
-use Rattle.nak_parser.proofs.Reading.{Shape, Read, read-of, header-is, entity-low, entity-high, number-low, number-high, field-low}
+use Rattle.nak_parser.specs.Parser.{flagIn, fieldLengthIn, entityLengthIn, numberLengthIn, headerLengthIn, scopeAt, requestsAt, requestsIn, identityIn, scopeIn, requestsOf, nakIn, readOutcome}
+use Rattle.nak_parser.proofs.Reading.{Read, read-of, header-is, entity-low, entity-high, number-low, number-high}
 use Rattle.nak_parser.proofs.Handed.{requests-at}
 use Rattle.nak_parser.proofs.Back.{nak-back, read-back}
 use Rattle.nak_parser.proofs.Forth.{part-low, f-is, requests-room, length-requests-in, pdu-forth}

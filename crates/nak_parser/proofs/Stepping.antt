@@ -1,24 +1,23 @@
 -- Stepping a reader from where reading left it gives exactly the requests, in order, and then the end, forever.
 -- Assumes nothing.
-use mathlib.Core.Path.{_≡_, refl, sym, ap, ap₂, _∙_}
-use mathlib.Core.Bool.{Bool, true, false, cond}
+use mathlib.Core.Path.{_≡_, refl, sym, ap, _∙_}
+use mathlib.Core.Bool.{Bool, true, false}
 use mathlib.Core.List.{List, [], _∷_, _++_}
-use Prim.Native.Nat.{ℕ, zero, suc, _+_, _*_, _-_, _/_, _≤_, _<_}
+use Prim.Native.Nat.{ℕ, zero, suc, _+_, _*_, _-_, _/_, _<_}
 use native.Mathlib.Nat.{suc-mul, suc-add, zero-add}
 use native.Mathlib.Omega.{arith}
 use lib.Dec.{eqb}
 use lib.ListN.{length, getD, drop, replicate}
 use lib.Seq.{drop-drop}
-use borrow.Author.Tests.{eqb-true, eqb-false}
-use Rattle.ranges.specs.Range.{Range, range}
+use borrow.Author.Tests.{eqb-true}
+use Rattle.ranges.specs.Range.{Range}
 use Rattle.ranges.specs.Outcome.{Outcome, accepted, lent}
 use Rattle.nak_parser.specs.declared.Step.{Step}
 use Rattle.nak_parser.specs.declared.Step.the-variants.{Request, End}
-use Rattle.octets.specs.Flag.{fieldLength}
-use Rattle.nak_parser.specs.Parser.{fieldAt, flagIn, fieldLengthIn, headerLengthIn, lengthField, requestsAt, requestsIn, requestsOf, readOutcome, parsedOf}
+use Rattle.nak_parser.specs.Parser.{fieldLengthIn, requestsAt, requestsIn, requestsOf, readOutcome, parsedOf}
 use Rattle.nak_parser.specs.Step.{stepOutcome, placeAfter, stepCase, steps, givings}
-use Rattle.nak_parser.proofs.Reading.{Read, read-of, field-low}
-use Rattle.nak_parser.proofs.Handed.{requests-at, part-of, at-end, not-at-end}
+use Rattle.nak_parser.proofs.Reading.{read-of, field-low}
+use Rattle.nak_parser.proofs.Handed.{part-of, at-end, not-at-end}
 use Rattle.nak_parser.proofs.Forth.{requests-room, length-requests-in}
 
 -- at its end a reader stays there

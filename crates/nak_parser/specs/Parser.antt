@@ -14,7 +14,7 @@ use Rattle.octets.specs.declared.LargeFileFlag.the-variants.{Normal}
 use Rattle.nak.specs.declared.Identity.{Identity}
 use Rattle.nak_parser.specs.declared.Parsed.{Parsed}
 use Rattle.nak.specs.Header.{wrongFixed, flagOf, entityLengthOf, numberLengthOf}
-use Rattle.nak.specs.Pdu.{Nak, saying, nakCode, headerLength}
+use Rattle.nak.specs.Pdu.{Nak, nakCode, headerLength}
 use Rattle.nak.specs.Request.{following, requestsOutcome}
 
 -- The octet at a place.

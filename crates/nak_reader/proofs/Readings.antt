@@ -6,8 +6,7 @@ use Prim.Native.Nat.{ℕ, zero, suc, _+_}
 use lib.ListN.{length, replicate}
 use denote.Ref.{RefT, now}
 use Rattle.ranges.specs.Outcome.{Outcome, accepted}
-use Rattle.nak_parser.specs.Parser.{parsedOf}
-use Rattle.nak_parser.specs.Step.{stepOutcome, placeAfter, steps, givings}
+use Rattle.nak_parser.specs.Step.{stepOutcome, steps, givings}
 use Rattle.nak_parser.proofs.Handed.{part-of}
 use Rattle.nak_parser.proofs.Stepping.{given, stepping}
 use Rattle.nak_reader.specs.declared.NakReader.{NakReader}

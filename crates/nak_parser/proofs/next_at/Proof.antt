@@ -1,20 +1,13 @@
-use Rattle.nak_parser.specs.Parser.{fieldAt, fieldLengthIn, parsedOf}
+-- `nak_parser::next_at` meets its contract: the end in two cases, and else the request at the place.
 use Rattle.nak_parser.specs.Step.{stepOutcome, placeAfter}
 use Rattle.nak_parser.proofs.Reading.{field-low, field-high}
-use Rattle.nak_parser.proofs.Handed.{part-of, at-end, not-at-end}
+use Rattle.nak_parser.proofs.Handed.{at-end, not-at-end}
 use native.Mathlib.Omega.{arith}
-use Prim.Native.Nat.{ℕ, suc, _+_, _*_, _-_, _≤_, _<_}
-use mathlib.Core.Path.{_≡_, refl, sym, ap, _∙_}
-use lib.ListN.{length, getD, take, drop, set}
+use mathlib.Core.Path.{refl}
 use borrow.Author.Needs.{needs}
 use Rattle.nak_parser.proofs.next_at.Statement.{statement}
 use Rattle.nak_parser.proofs.next_at.Tie as tie
-use Rattle.nak_parser.proofs.next_at.Reads as reads
-use Rattle.nak_parser.proofs.next_at.Lts as lts
-use Rattle.nak_parser.proofs.inner.field_length_in.Reads as field-length-in-reads
-use Rattle.octets.proofs.inner.get.Reads as get-reads
 
--- src/lib.rt:100:9
 returns : tie.Need-returns
 unfolding stepOutcome placeAfter
 returns c =
@@ -24,15 +17,12 @@ returns c =
     let e = at-end p (c .before .before .args .at) (omega arith) in
     rw e (refl, refl)
 
--- src/lib.rt:105:9
 field-length-in-requires : tie.Need-field-length-in-requires
 field-length-in-requires c κs = search needs
 
--- src/lib.rt:106:8
 sub-if2 : tie.Need-sub-if2
 sub-if2 c = search needs
 
--- src/lib.rt:106:21
 mul-if2 : tie.Need-mul-if2
 mul-if2 c =
     let p = c .before .before .before .args .packet .now in
@@ -40,7 +30,6 @@ mul-if2 c =
     let fh = field-high p in
     omega arith
 
--- src/lib.rt:107:9
 returns-2 : tie.Need-returns-2
 unfolding stepOutcome placeAfter
 returns-2 c =
@@ -50,7 +39,6 @@ returns-2 c =
     let e = at-end p (c .before .before .before .before .args .at) (omega arith) in
     rw e (refl, refl)
 
--- src/lib.rt:112:9
 get-requires : tie.Need-get-requires
 get-requires c κs =
     let p = c .before .before .before .before .args .packet .now in
@@ -58,11 +46,9 @@ get-requires c κs =
     let fh = field-high p in
     omega arith
 
--- src/lib.rt:113:27
 add-get : tie.Need-add-get
 add-get c = search needs
 
--- src/lib.rt:113:9
 get-requires-2 : tie.Need-get-requires-2
 get-requires-2 c κs =
     let p = c .before .before .before .before .before .args .packet .now in
@@ -70,15 +56,12 @@ get-requires-2 c κs =
     let fh = field-high p in
     omega arith
 
--- src/lib.rt:116:18
 mul-t10 : tie.Need-mul-t10
 mul-t10 c = search needs
 
--- src/lib.rt:116:13
 add-t9 : tie.Need-add-t9
 add-t9 c = search needs
 
--- src/lib.rt:95:1
 returns-3 : tie.Need-returns-3
 unfolding stepOutcome placeAfter
 returns-3 c =

@@ -1,43 +1,29 @@
-use Rattle.nak_parser.proofs.Reading.{is-scope, is-place, is-requests, field-low, field-high, entity-low, entity-high, number-low, number-high, header-is, header-high, length-low, right-length, right-data, shape-short, shape-15, shape-16, shape-17, shape-data, shape-fine, read-18, read-request, read-14, read-fine, shape-of, parsed-shape}
-use Rattle.nak_parser.specs.Parser.{octetAt, flagIn, fieldLengthIn, entityLengthIn, numberLengthIn, headerLengthIn, lengthField, scopeIn, requestsOf, identityIn, wrongLength, wrongData, acceptedParsed, parsedOf}
+-- `nak_parser::parse` meets its contract: each return is what is handed back after the checks passed before it.
+use Rattle.nak_parser.proofs.Reading.{is-scope, is-place, is-requests, field-low, field-high, header-high, read-18, read-request, read-14, read-fine, shape-of, parsed-shape}
+use Rattle.nak_parser.specs.Parser.{scopeIn, requestsOf, acceptedParsed, parsedOf}
 use native.Mathlib.Nat.{mul-div-le}
 use Rattle.nak.specs.Request.{requestsCase, requestsOutcome}
 use Rattle.ranges.specs.Outcome.{accepted}
 use mathlib.Core.List.{[]}
-use borrow.Author.Tests.{lt-ltb, le-ltb, eq-eqb, ne-eqb, not-true, not-false}
 use native.Mathlib.Omega.{arith}
-use Prim.Native.Nat.{ℕ, suc, _+_, _*_, _-_, _≤_, _<_}
-use mathlib.Core.Path.{_≡_, refl, sym, ap, _∙_}
-use lib.ListN.{length, getD, take, drop, set}
+use Prim.Native.Nat.{ℕ, _+_, _*_, _-_, _≤_}
+use mathlib.Core.Path.{_≡_, sym, ap, _∙_}
+use lib.ListN.{length}
 use borrow.Author.Needs.{needs}
 use Rattle.nak_parser.proofs.parse.Statement.{statement}
 use Rattle.nak_parser.proofs.parse.Tie as tie
-use Rattle.nak_parser.proofs.parse.Reads as reads
-use Rattle.nak_parser.proofs.parse.Lts as lts
-use Rattle.nak_parser.proofs.inner.check_packet.Reads as check-packet-reads
-use Rattle.nak_parser.proofs.inner.field_length_in.Reads as field-length-in-reads
-use Rattle.nak_parser.proofs.inner.flag_in.Reads as flag-in-reads
-use Rattle.nak_parser.proofs.inner.header_length_in.Reads as header-length-in-reads
-use Rattle.nak_parser.proofs.inner.identity_in.Reads as identity-in-reads
-use Rattle.nak_parser.proofs.inner.refused.Reads as refused-reads
-use Rattle.nak_parser.proofs.inner.shape.Reads as shape-reads
-use Rattle.octets.proofs.inner.get.Reads as get-reads
 
--- src/lib.rt:33:9
 shape-requires : tie.Need-shape-requires
 shape-requires c κs = search needs
 
--- src/lib.rt:35:9
 refused-requires : tie.Need-refused-requires
 refused-requires c κs = search needs
 
--- src/lib.rt:35:9
 returns : tie.Need-returns
 returns c =
     let p = c .before .before .before .before .args .packet .now in
     rw (parsed-shape p (λ z. c .before .if1 .taken (c .before .before .shape .ensures ∙ z)), ← c .before .before .shape .ensures) (c .refused .ensures)
 
--- src/lib.rt:37:14
 header-length-in-requires : tie.Need-header-length-in-requires
 header-length-in-requires c κs =
     let p = c .before .before .before .args .packet .now in
@@ -47,7 +33,6 @@ header-length-in-requires c κs =
     let hh = header-high p in
     omega arith
 
--- src/lib.rt:37:14
 add-at : tie.Need-add-at
 add-at c =
     let p = c .before .before .before .before .args .packet .now in
@@ -57,7 +42,6 @@ add-at c =
     let hh = header-high p in
     omega arith
 
--- src/lib.rt:38:9
 field-length-in-requires : tie.Need-field-length-in-requires
 field-length-in-requires c κs =
     let p = c .before .before .before .before .args .packet .now in
@@ -67,7 +51,6 @@ field-length-in-requires c κs =
     let hh = header-high p in
     omega arith
 
--- src/lib.rt:39:9
 get-requires : tie.Need-get-requires
 get-requires c κs =
     let p = c .before .before .before .before .before .args .packet .now in
@@ -77,7 +60,6 @@ get-requires c κs =
     let hh = header-high p in
     omega arith
 
--- src/lib.rt:40:33
 add-get : tie.Need-add-get
 add-get c =
     let p = c .before .before .before .before .before .before .args .packet .now in
@@ -87,7 +69,6 @@ add-get c =
     let hh = header-high p in
     omega arith
 
--- src/lib.rt:40:9
 get-requires-2 : tie.Need-get-requires-2
 get-requires-2 c κs =
     let p = c .before .before .before .before .before .before .args .packet .now in
@@ -97,24 +78,18 @@ get-requires-2 c κs =
     let hh = header-high p in
     omega arith
 
--- src/lib.rt:42:9
 refused-requires-2 : tie.Need-refused-requires-2
 refused-requires-2 c κs = search needs
 
--- src/lib.rt:42:9
 returns-2 : tie.Need-returns-2
 unfolding parsedOf
 returns-2 c =
     let p = c .before .before .before .before .before .before .before .before .before .args .packet .now in
     let s = shape-of p (sym (c .before .before .before .before .before .before .before .shape .ensures) ∙ c .before .before .before .before .before .before .if1 .left) in
-    let fl = field-low p in
-    let fh = field-high p in
-    let hh = header-high p in
     let r = is-scope p (ap (λ (x : ℕ). x + 1) (c .before .before .before .before .before .header-length-in .ensures)) (c .before .before .before .before .field-length-in .ensures) (c .before .before .before .get .ensures) (c .before .before .get2 .ensures) in
     let e = read-18 p (s .outcome) (rw (← r) (c .before .if2 .taken)) in
     rw e (c .refused2 .ensures)
 
--- src/lib.rt:44:21
 mul-from : tie.Need-mul-from
 mul-from c =
     let p = c .before .before .before .before .before .before .before .before .args .packet .now in
@@ -124,7 +99,6 @@ mul-from c =
     let hh = header-high p in
     omega arith
 
--- src/lib.rt:44:16
 add-from : tie.Need-add-from
 add-from c =
     let p = c .before .before .before .before .before .before .before .before .args .packet .now in
@@ -134,7 +108,6 @@ add-from c =
     let hh = header-high p in
     omega arith
 
--- src/lib.rt:45:56
 sub-check-packet : tie.Need-sub-check-packet
 sub-check-packet c =
     let p = c .before .before .before .before .before .before .before .before .args .packet .now in
@@ -144,7 +117,6 @@ sub-check-packet c =
     let hh = header-high p in
     omega arith
 
--- src/lib.rt:45:73
 mul-check-packet : tie.Need-mul-check-packet
 mul-check-packet c =
     let p = c .before .before .before .before .before .before .before .before .args .packet .now in
@@ -154,7 +126,6 @@ mul-check-packet c =
     let hh = header-high p in
     omega arith
 
--- src/lib.rt:45:55
 div-check-packet : tie.Need-div-check-packet
 div-check-packet c =
     let p = c .before .before .before .before .before .before .before .before .args .packet .now in
@@ -164,7 +135,6 @@ div-check-packet c =
     let hh = header-high p in
     omega arith
 
--- src/lib.rt:45:9
 check-packet-requires : tie.Need-check-packet-requires
 check-packet-requires c κs =
     let p = c .before .before .before .before .before .before .before .before .args .packet .now in
@@ -175,15 +145,12 @@ check-packet-requires c κs =
     let m = mul-div-le (length p - (c .before .before .before .before .header-length-in .result + 1 + 2 * c .before .before .before .field-length-in .result)) (2 * c .before .before .before .field-length-in .result) in
     omega arith
 
--- src/lib.rt:47:44
 enum-known-answer : tie.Need-enum-known-answer
 enum-known-answer c = search needs
 
--- src/lib.rt:48:13
 refused-requires-3 : tie.Need-refused-requires-3
 refused-requires-3 c κs = search needs
 
--- src/lib.rt:48:13
 returns-3 : tie.Need-returns-3
 unfolding parsedOf
 returns-3 c =
@@ -199,15 +166,12 @@ returns-3 c =
     let e = read-request p (s .outcome) b 2 _ (ap requestsOutcome (sym y) ∙ sym (c .before .before .before .before .check-packet .ensures) ∙ ap requestsCase (c .before .before .answer .given .1)) in
     rw e (c .refused3 .ensures)
 
--- src/lib.rt:51:13
 enum-told : tie.Need-enum-told
 enum-told c = search needs
 
--- src/lib.rt:51:13
 refused-requires-4 : tie.Need-refused-requires-4
 refused-requires-4 c κs = search needs
 
--- src/lib.rt:51:13
 returns-4 : tie.Need-returns-4
 unfolding parsedOf
 returns-4 c =
@@ -226,11 +190,9 @@ returns-4 c =
 enum-told-2 : tie.Need-enum-told-2
 enum-told-2 c = search needs
 
--- src/lib.rt:56:9
 refused-requires-5 : tie.Need-refused-requires-5
 refused-requires-5 c κs = search needs
 
--- src/lib.rt:56:9
 returns-5 : tie.Need-returns-5
 unfolding parsedOf
 returns-5 c =
@@ -247,7 +209,6 @@ returns-5 c =
     let e = read-14 p (s .outcome) b q (c .before .if3 .taken) in
     rw e (c .refused5 .ensures)
 
--- src/lib.rt:58:9
 identity-in-requires : tie.Need-identity-in-requires
 identity-in-requires c κs =
     let p = c .before .before .before .before .before .before .before .before .before .before .before .before .args .packet .now in
@@ -257,7 +218,6 @@ identity-in-requires c κs =
     let hh = header-high p in
     (omega arith, omega arith)
 
--- src/lib.rt:59:9
 flag-in-requires : tie.Need-flag-in-requires
 flag-in-requires c κs =
     let p = c .before .before .before .before .before .before .before .before .before .before .before .before .before .args .packet .now in
@@ -267,7 +227,6 @@ flag-in-requires c κs =
     let hh = header-high p in
     omega arith
 
--- src/lib.rt:29:1
 returns-6 : tie.Need-returns-6
 unfolding parsedOf acceptedParsed
 returns-6 c =

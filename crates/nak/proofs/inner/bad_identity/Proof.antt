@@ -1,59 +1,42 @@
-use borrow.Author.Tests.{lt-ltb, le-ltb, eq-eqb, ne-eqb, not-true, not-false}
+-- `nak::inner::bad_identity` meets its contract: the tests are the definition's, in its order.
+use borrow.Author.Tests.{not-true, not-false}
 use Rattle.nak.specs.Writer.{isBadIdentity}
-use borrow.Author.Tests.{lt-ltb, le-ltb, eq-eqb, ne-eqb}
-use native.Mathlib.Omega.{arith}
-use Prim.Native.Nat.{ℕ, suc, _+_, _*_, _-_, _≤_, _<_}
-use mathlib.Core.Path.{_≡_, refl, sym, ap, _∙_}
-use lib.ListN.{length, getD, take, drop, set}
+use mathlib.Core.Path.{sym, _∙_}
 use borrow.Author.Needs.{needs}
 use Rattle.nak.proofs.inner.bad_identity.Statement.{statement}
 use Rattle.nak.proofs.inner.bad_identity.Tie as tie
-use Rattle.nak.proofs.inner.bad_identity.Reads as reads
-use Rattle.nak.proofs.inner.bad_identity.Lts as lts
-use Rattle.nak.proofs.inner.bad_length.Reads as bad-length-reads
-use Rattle.octets.proofs.does_fit.Reads as does-fit-reads
 
--- src/inner.rt:117:8
 bad-length-requires : tie.Need-bad-length-requires
 bad-length-requires c κs = search needs
 
--- src/inner.rt:118:9
 returns : tie.Need-returns
 unfolding isBadIdentity
 returns c = simp (sym (c .before .bad-length .ensures) ∙ c .if1 .taken)
 
--- src/inner.rt:120:8
 bad-length-requires-2 : tie.Need-bad-length-requires-2
 bad-length-requires-2 c κs = search needs
 
--- src/inner.rt:121:9
 returns-2 : tie.Need-returns-2
 unfolding isBadIdentity
 returns-2 c = simp (sym (c .before .before .before .bad-length .ensures) ∙ c .before .before .if1 .left, sym (c .before .bad-length2 .ensures) ∙ c .if2 .taken)
 
--- src/inner.rt:123:9
 does-fit-requires : tie.Need-does-fit-requires
 does-fit-requires c κs = search needs
 
--- src/inner.rt:124:9
 returns-3 : tie.Need-returns-3
 unfolding isBadIdentity
 returns-3 c = simp (sym (c .before .before .before .before .before .bad-length .ensures) ∙ c .before .before .before .before .if1 .left, sym (c .before .before .before .bad-length2 .ensures) ∙ c .before .before .if2 .left, sym (c .before .does-fit .ensures) ∙ not-true _ (c .if3 .taken))
 
--- src/inner.rt:126:9
 does-fit-requires-2 : tie.Need-does-fit-requires-2
 does-fit-requires-2 c κs = search needs
 
--- src/inner.rt:127:9
 returns-4 : tie.Need-returns-4
 unfolding isBadIdentity
 returns-4 c = simp (sym (c .before .before .before .before .before .before .before .bad-length .ensures) ∙ c .before .before .before .before .before .before .if1 .left, sym (c .before .before .before .before .before .bad-length2 .ensures) ∙ c .before .before .before .before .if2 .left, sym (c .before .before .before .does-fit .ensures) ∙ not-false _ (c .before .before .if3 .left), sym (c .before .does-fit2 .ensures) ∙ not-true _ (c .if4 .taken))
 
--- src/inner.rt:129:6
 does-fit-requires-3 : tie.Need-does-fit-requires-3
 does-fit-requires-3 c κs = search needs
 
--- src/inner.rt:114:1
 returns-5 : tie.Need-returns-5
 unfolding isBadIdentity
 returns-5 c = simp (sym (c .before .before .before .before .before .before .before .before .bad-length .ensures) ∙ c .before .before .before .before .before .before .before .if1 .left, sym (c .before .before .before .before .before .before .bad-length2 .ensures) ∙ c .before .before .before .before .before .if2 .left, sym (c .before .before .before .before .does-fit .ensures) ∙ not-false _ (c .before .before .before .if3 .left), sym (c .before .before .does-fit2 .ensures) ∙ not-false _ (c .before .if4 .left), sym (c .does-fit3 .ensures))

@@ -1,21 +1,13 @@
+-- `nak::inner::bad_list` meets its contract: the tests are the definition's.
 use Rattle.nak.specs.Writer.{isBadList}
-use borrow.Author.Tests.{lt-ltb, le-ltb, eq-eqb, ne-eqb}
-use borrow.Author.Needs.{needs}
-use native.Mathlib.Omega.{arith}
-use Prim.Native.Nat.{ℕ, suc, _+_, _*_, _-_, _≤_, _<_}
-use mathlib.Core.Path.{_≡_, refl, sym, ap, _∙_}
-use lib.ListN.{length, getD, take, drop, set}
+use borrow.Author.Tests.{eq-eqb, ne-eqb}
 use Rattle.nak.proofs.inner.bad_list.Statement.{statement}
 use Rattle.nak.proofs.inner.bad_list.Tie as tie
-use Rattle.nak.proofs.inner.bad_list.Reads as reads
-use Rattle.nak.proofs.inner.bad_list.Lts as lts
 
--- src/inner.rt:121:1
 returns : tie.Need-returns
 unfolding isBadList
 returns c = simp (eq-eqb _ _ (c .if1 .taken))
 
--- src/inner.rt:121:1
 returns-2 : tie.Need-returns-2
 unfolding isBadList
 returns-2 c = simp (ne-eqb _ _ (c .if1 .left))

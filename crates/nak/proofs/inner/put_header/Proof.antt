@@ -1,74 +1,54 @@
-use Rattle.nak.proofs.Puts.{flag-low, header-puts, identity-puts, asked-puts, data-puts, pdu-puts}
+-- `nak::inner::put_header` meets its contract: the octets written side by side are the header.
+use Rattle.nak.proofs.Puts.{flag-low, header-puts}
 use native.Mathlib.Omega.{arith}
-use Prim.Native.Nat.{ℕ, suc, _+_, _*_, _-_, _≤_, _<_}
-use mathlib.Core.Path.{_≡_, refl, sym, ap, _∙_}
-use lib.ListN.{length, getD, take, drop, set}
+use Prim.Native.Nat.{ℕ, _+_}
+use mathlib.Core.Path.{ap, _∙_}
 use borrow.Author.Needs.{needs}
 use Rattle.nak.proofs.inner.put_header.Statement.{statement}
 use Rattle.nak.proofs.inner.put_header.Tie as tie
-use Rattle.nak.proofs.inner.put_header.Reads as reads
-use Rattle.nak.proofs.inner.put_header.Lts as lts
-use Rattle.nak.proofs.inner.flag_bit.Reads as flag-bit-reads
-use Rattle.nak.proofs.inner.wide.Reads as wide-reads
-use Rattle.octets.proofs.inner.put.Reads as put-reads
 
--- src/inner.rt:146:26
 flag-bit-requires : tie.Need-flag-bit-requires
 flag-bit-requires c κs = search needs
 
--- src/inner.rt:146:21
 add-put : tie.Need-add-put
 add-put c = omega (arith, flag-low (c .before .before .before .args .flag), c .flag-bit .ensures)
 
--- src/inner.rt:146:5
 put-requires : tie.Need-put-requires
 put-requires c κs = search needs
 
--- src/inner.rt:147:14
 add-put-2 : tie.Need-add-put-2
 add-put-2 c = search needs
 
--- src/inner.rt:147:25
 wide-requires : tie.Need-wide-requires
 wide-requires c κs = search needs
 
--- src/inner.rt:147:5
 put-requires-2 : tie.Need-put-requires-2
 put-requires-2 c κs = search needs
 
--- src/inner.rt:148:14
 add-put-3 : tie.Need-add-put-3
 add-put-3 c = search needs
 
--- src/inner.rt:148:31
 sub-wide : tie.Need-sub-wide
 sub-wide c = search needs
 
--- src/inner.rt:148:30
 mul-wide : tie.Need-mul-wide
 mul-wide c = search needs
 
--- src/inner.rt:148:46
 sub-wide-2 : tie.Need-sub-wide-2
 sub-wide-2 c = search needs
 
--- src/inner.rt:148:30
 add-wide : tie.Need-add-wide
 add-wide c = search needs
 
--- src/inner.rt:148:25
 wide-requires-2 : tie.Need-wide-requires-2
 wide-requires-2 c κs = search needs
 
--- src/inner.rt:148:5
 put-requires-3 : tie.Need-put-requires-3
 put-requires-3 c κs = search needs
 
--- src/inner.rt:142:1
 same-length : tie.Need-same-length
 same-length c = search needs
 
--- src/inner.rt:142:1
 returns : tie.Need-returns
 returns c =
     let a = c .before .before .before .before .before .before .before .before .before .before .before .before .before .before .before .before .args in

@@ -1,25 +1,19 @@
-use Rattle.nak.proofs.Parts.{length-asked, asked-low, data-room, data-length, data-low, length-pdu}
+-- `nak::inner::put_metadata` meets its contract: two fields of 0, or nothing.
+use Rattle.nak.proofs.Parts.{length-asked}
 use Rattle.octets.proofs.Over.{over-nothing}
 use borrow.Author.Tests.{not-true, not-false}
-use Rattle.nak.proofs.Puts.{flag-low, header-puts, identity-puts, asked-puts, data-puts, pdu-puts}
+use Rattle.nak.proofs.Puts.{asked-puts}
 use native.Mathlib.Omega.{arith}
-use Prim.Native.Nat.{ℕ, suc, _+_, _*_, _-_, _≤_, _<_}
-use mathlib.Core.Path.{_≡_, refl, sym, ap, _∙_}
-use lib.ListN.{length, getD, take, drop, set}
+use mathlib.Core.Path.{sym}
 use borrow.Author.Needs.{needs}
 use Rattle.nak.proofs.inner.put_metadata.Statement.{statement}
 use Rattle.nak.proofs.inner.put_metadata.Tie as tie
-use Rattle.nak.proofs.inner.put_metadata.Reads as reads
-use Rattle.nak.proofs.inner.put_metadata.Lts as lts
-use Rattle.octets.proofs.inner.put.Reads as put-reads
 
--- src/inner.rt:170:9
 returns : tie.Need-returns
 returns c =
     let a = c .before .before .args in
     rw (not-true (a .metadata) (c .if1 .taken)) (omega arith, sym (over-nothing (a .buf .now) (a .at)))
 
--- src/inner.rt:172:5
 put-requires : tie.Need-put-requires
 put-requires c κs =
     let a = c .before .before .before .args in
@@ -27,7 +21,6 @@ put-requires c κs =
     let h = rw (not-false (a .metadata) (c .before .if1 .left)) at (c .before .before .before .pre) in
     omega arith
 
--- src/inner.rt:173:14
 add-put : tie.Need-add-put
 add-put c =
     let a = c .before .before .before .before .before .before .before .args in
@@ -35,7 +28,6 @@ add-put c =
     let h = rw (not-false (a .metadata) (c .before .before .before .before .before .if1 .left)) at (c .before .before .before .before .before .before .before .pre) in
     omega arith
 
--- src/inner.rt:173:5
 put-requires-2 : tie.Need-put-requires-2
 put-requires-2 c κs =
     let a = c .before .before .before .before .before .before .before .args in
@@ -43,7 +35,6 @@ put-requires-2 c κs =
     let h = rw (not-false (a .metadata) (c .before .before .before .before .before .if1 .left)) at (c .before .before .before .before .before .before .before .pre) in
     omega arith
 
--- src/inner.rt:174:5
 add-result : tie.Need-add-result
 add-result c =
     let a = c .before .before .before .before .before .before .before .before .before .before .args in
@@ -51,7 +42,6 @@ add-result c =
     let h = rw (not-false (a .metadata) (c .before .before .before .before .before .before .before .before .if1 .left)) at (c .before .before .before .before .before .before .before .before .before .before .pre) in
     omega arith
 
--- src/inner.rt:174:5
 add-result-2 : tie.Need-add-result-2
 add-result-2 c =
     let a = c .before .before .before .before .before .before .before .before .before .before .args in
@@ -59,11 +49,9 @@ add-result-2 c =
     let h = rw (not-false (a .metadata) (c .before .before .before .before .before .before .before .before .if1 .left)) at (c .before .before .before .before .before .before .before .before .before .before .pre) in
     omega arith
 
--- src/inner.rt:164:1
 same-length : tie.Need-same-length
 same-length c = search needs
 
--- src/inner.rt:164:1
 returns-2 : tie.Need-returns-2
 returns-2 c =
     let a = c .before .before .before .before .before .before .before .before .before .before .args in

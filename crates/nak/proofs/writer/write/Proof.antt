@@ -1,3 +1,5 @@
+-- `nak::writer::write` meets its contract: each return is the answer of the checks passed before it, and changes nothing; the last
+-- leaves the PDU.
 use Rattle.octets.proofs.Over.{over-whole}
 use Rattle.nak.proofs.Parts.{total-is, f-high}
 use Rattle.nak.proofs.Flat.{flat-pairs}
@@ -8,30 +10,18 @@ use Rattle.ranges.specs.Outcome.{accepted}
 use Rattle.ranges.specs.Store.{pairs, flat, anyAbove}
 use mathlib.Core.List.{[], _∷_}
 use mathlib.Core.Bool.{true, false}
-use borrow.Author.Tests.{lt-ltb, le-ltb, eq-eqb, ne-eqb}
 use Rattle.nak.proofs.Checks.{nak-13, nak-18, nak-request, nak-7, nak-14, nak-fine, write-10, write-nak, write-6, write-fine, good-list, good-lengths, all-entries}
 use native.Mathlib.Omega.{arith}
-use Prim.Native.Nat.{ℕ, suc, _+_, _*_, _-_, _≤_, _<_}
+use Prim.Native.Nat.{ℕ, _+_, _*_, _≤_}
 use mathlib.Core.Path.{_≡_, refl, sym, ap, _∙_}
-use lib.ListN.{length, getD, take, drop, set}
+use lib.ListN.{length}
 use borrow.Author.Needs.{needs}
 use Rattle.nak.proofs.writer.write.Statement.{statement}
 use Rattle.nak.proofs.writer.write.Tie as tie
-use Rattle.nak.proofs.writer.write.Reads as reads
-use Rattle.nak.proofs.writer.write.Lts as lts
-use Rattle.nak.proofs.inner.any_number_above.Reads as any-number-above-reads
-use Rattle.nak.proofs.inner.bad_identity.Reads as bad-identity-reads
-use Rattle.nak.proofs.inner.bad_list.Reads as bad-list-reads
-use Rattle.nak.proofs.inner.check_requests.Reads as check-requests-reads
-use Rattle.nak.proofs.inner.write_at.Reads as write-at-reads
-use Rattle.octets.proofs.LargeFileFlag.field_length.Reads as field-length-reads
-use Rattle.octets.proofs.LargeFileFlag.largest.Reads as largest-reads
 
--- src/writer.rt:39:8
 bad-list-requires : tie.Need-bad-list-requires
 bad-list-requires c κs = search needs
 
--- src/writer.rt:40:9
 returns : tie.Need-returns
 returns c =
     let a = c .before .before .before .before .args in
@@ -41,11 +31,9 @@ returns c =
     let o = write-10 xs n g (sym (c .before .bad-list .ensures) ∙ c .if1 .taken) in
     rw o (refl, refl)
 
--- src/writer.rt:42:8
 bad-identity-requires : tie.Need-bad-identity-requires
 bad-identity-requires c κs = search needs
 
--- src/writer.rt:43:9
 returns-2 : tie.Need-returns-2
 returns-2 c =
     let a = c .before .before .before .before .before .before .args in
@@ -56,7 +44,6 @@ returns-2 c =
     let o = write-nak xs n g b 12 [] (nak-13 n (sym (c .before .bad-identity .ensures) ∙ c .if2 .taken)) in
     rw o (refl, refl)
 
--- src/writer.rt:46:9
 returns-3 : tie.Need-returns-3
 returns-3 c =
     let a = c .before .before .before .before .before .before .before .args in
@@ -68,15 +55,12 @@ returns-3 c =
     let o = write-nak xs n g b 17 [] (nak-18 n d (c .if3 .taken)) in
     rw o (refl, refl)
 
--- src/writer.rt:48:9
 check-requests-requires : tie.Need-check-requests-requires
 check-requests-requires c κs = search needs
 
--- src/writer.rt:50:44
 enum-known-answer : tie.Need-enum-known-answer
 enum-known-answer c = search needs
 
--- src/writer.rt:51:13
 returns-4 : tie.Need-returns-4
 returns-4 c =
     let a = c .before .before .before .before .before .before .before .before .before .before .before .args in
@@ -90,11 +74,9 @@ returns-4 c =
     let o = write-nak xs n g b 2 _ (nak-request n d s 2 _ r) in
     rw o (refl, refl)
 
--- src/writer.rt:54:13
 enum-told : tie.Need-enum-told
 enum-told c = search needs
 
--- src/writer.rt:54:13
 returns-5 : tie.Need-returns-5
 returns-5 c =
     let a = c .before .before .before .before .before .before .before .before .before .before .args in
@@ -111,15 +93,12 @@ returns-5 c =
 enum-told-2 : tie.Need-enum-told-2
 enum-told-2 c = search needs
 
--- src/writer.rt:58:32
 largest-requires : tie.Need-largest-requires
 largest-requires c κs = search needs
 
--- src/writer.rt:58:8
 any-number-above-requires : tie.Need-any-number-above-requires
 any-number-above-requires c κs = search needs
 
--- src/writer.rt:59:9
 returns-6 : tie.Need-returns-6
 returns-6 c =
     let a = c .before .before .before .before .before .before .before .before .before .before .before .before .before .args in
@@ -135,114 +114,54 @@ returns-6 c =
     let o = write-nak xs n g b 6 [] (nak-7 n d s r t) in
     rw o (refl, refl)
 
--- src/writer.rt:63:21
 mul-total : tie.Need-mul-total
 mul-total c =
     let a = c .before .before .before .before .before .before .before .before .before .before .before .before .before .args in
-    let xs = a .requests .now in
-    let n = saying (a .flag) (a .identity) (a .start) (a .end) (pairs xs) in
-    let g = length (a .buf .now) in
-    let b = sym (c .before .before .before .before .before .before .before .before .before .before .bad-list .ensures) ∙ c .before .before .before .before .before .before .before .before .before .if1 .left in
-    let d = sym (c .before .before .before .before .before .before .before .before .bad-identity .ensures) ∙ c .before .before .before .before .before .before .before .if2 .left in
-    let s : a .start ≤ a .end = omega arith in
-    let r : requestsOutcome (pairs xs) ≡ accepted [] = sym (c .before .before .before .before .before .check-requests .ensures) ∙ ap requestsCase (c .before .before .before .enum-told2 .given .1) in
-    let e = good-list xs b in
-    let t : anyAbove (largestOf (a .flag)) (a .start ∷ a .end ∷ flat (pairs xs)) ≡ false = ap (λ (t : ℕ). anyAbove t (a .start ∷ a .end ∷ flat (pairs xs))) (sym (c .before .before .largest .ensures)) ∙ rw (flat-pairs xs (e .0)) (sym (c .before .any-number-above .ensures) ∙ c .if4 .left) in
-    let k = good-lengths (a .identity) d in
+    let k = good-lengths (a .identity) (sym (c .before .before .before .before .before .before .before .before .bad-identity .ensures) ∙ c .before .before .before .before .before .before .before .if2 .left) in
     omega arith
 
--- src/writer.rt:63:17
 add-total : tie.Need-add-total
 add-total c =
     let a = c .before .before .before .before .before .before .before .before .before .before .before .before .before .args in
-    let xs = a .requests .now in
-    let n = saying (a .flag) (a .identity) (a .start) (a .end) (pairs xs) in
-    let g = length (a .buf .now) in
-    let b = sym (c .before .before .before .before .before .before .before .before .before .before .bad-list .ensures) ∙ c .before .before .before .before .before .before .before .before .before .if1 .left in
-    let d = sym (c .before .before .before .before .before .before .before .before .bad-identity .ensures) ∙ c .before .before .before .before .before .before .before .if2 .left in
-    let s : a .start ≤ a .end = omega arith in
-    let r : requestsOutcome (pairs xs) ≡ accepted [] = sym (c .before .before .before .before .before .check-requests .ensures) ∙ ap requestsCase (c .before .before .before .enum-told2 .given .1) in
-    let e = good-list xs b in
-    let t : anyAbove (largestOf (a .flag)) (a .start ∷ a .end ∷ flat (pairs xs)) ≡ false = ap (λ (t : ℕ). anyAbove t (a .start ∷ a .end ∷ flat (pairs xs))) (sym (c .before .before .largest .ensures)) ∙ rw (flat-pairs xs (e .0)) (sym (c .before .any-number-above .ensures) ∙ c .if4 .left) in
-    let k = good-lengths (a .identity) d in
+    let k = good-lengths (a .identity) (sym (c .before .before .before .before .before .before .before .before .bad-identity .ensures) ∙ c .before .before .before .before .before .before .before .if2 .left) in
     omega arith
 
--- src/writer.rt:63:17
 add-total-2 : tie.Need-add-total-2
 add-total-2 c =
     let a = c .before .before .before .before .before .before .before .before .before .before .before .before .before .args in
-    let xs = a .requests .now in
-    let n = saying (a .flag) (a .identity) (a .start) (a .end) (pairs xs) in
-    let g = length (a .buf .now) in
-    let b = sym (c .before .before .before .before .before .before .before .before .before .before .bad-list .ensures) ∙ c .before .before .before .before .before .before .before .before .before .if1 .left in
-    let d = sym (c .before .before .before .before .before .before .before .before .bad-identity .ensures) ∙ c .before .before .before .before .before .before .before .if2 .left in
-    let s : a .start ≤ a .end = omega arith in
-    let r : requestsOutcome (pairs xs) ≡ accepted [] = sym (c .before .before .before .before .before .check-requests .ensures) ∙ ap requestsCase (c .before .before .before .enum-told2 .given .1) in
-    let e = good-list xs b in
-    let t : anyAbove (largestOf (a .flag)) (a .start ∷ a .end ∷ flat (pairs xs)) ≡ false = ap (λ (t : ℕ). anyAbove t (a .start ∷ a .end ∷ flat (pairs xs))) (sym (c .before .before .largest .ensures)) ∙ rw (flat-pairs xs (e .0)) (sym (c .before .any-number-above .ensures) ∙ c .if4 .left) in
-    let k = good-lengths (a .identity) d in
+    let k = good-lengths (a .identity) (sym (c .before .before .before .before .before .before .before .before .bad-identity .ensures) ∙ c .before .before .before .before .before .before .before .if2 .left) in
     omega arith
 
--- src/writer.rt:63:38
 field-length-requires : tie.Need-field-length-requires
 field-length-requires c κs = search needs
 
--- src/writer.rt:63:61
 add-total-3 : tie.Need-add-total-3
 add-total-3 c = search needs
 
--- src/writer.rt:63:38
 mul-total-2 : tie.Need-mul-total-2
 mul-total-2 c =
     let a = c .before .before .before .before .before .before .before .before .before .before .before .before .before .before .args in
-    let xs = a .requests .now in
-    let n = saying (a .flag) (a .identity) (a .start) (a .end) (pairs xs) in
-    let g = length (a .buf .now) in
-    let b = sym (c .before .before .before .before .before .before .before .before .before .before .before .bad-list .ensures) ∙ c .before .before .before .before .before .before .before .before .before .before .if1 .left in
-    let d = sym (c .before .before .before .before .before .before .before .before .before .bad-identity .ensures) ∙ c .before .before .before .before .before .before .before .before .if2 .left in
-    let s : a .start ≤ a .end = omega arith in
-    let r : requestsOutcome (pairs xs) ≡ accepted [] = sym (c .before .before .before .before .before .before .check-requests .ensures) ∙ ap requestsCase (c .before .before .before .before .enum-told2 .given .1) in
-    let e = good-list xs b in
-    let t : anyAbove (largestOf (a .flag)) (a .start ∷ a .end ∷ flat (pairs xs)) ≡ false = ap (λ (t : ℕ). anyAbove t (a .start ∷ a .end ∷ flat (pairs xs))) (sym (c .before .before .before .largest .ensures)) ∙ rw (flat-pairs xs (e .0)) (sym (c .before .before .any-number-above .ensures) ∙ c .before .if4 .left) in
-    let k = good-lengths (a .identity) d in
-    let w = f-high (a .flag) (2 + length xs) (c .field-length .ensures) (omega arith) in
+    let k = good-lengths (a .identity) (sym (c .before .before .before .before .before .before .before .before .before .bad-identity .ensures) ∙ c .before .before .before .before .before .before .before .before .if2 .left) in
+    let e = good-list (a .requests .now) (sym (c .before .before .before .before .before .before .before .before .before .before .before .bad-list .ensures) ∙ c .before .before .before .before .before .before .before .before .before .before .if1 .left) in
+    let w = f-high (a .flag) (2 + length (a .requests .now)) (c .field-length .ensures) (omega arith) in
     omega arith
 
--- src/writer.rt:63:34
 add-total-4 : tie.Need-add-total-4
 add-total-4 c =
     let a = c .before .before .before .before .before .before .before .before .before .before .before .before .before .before .args in
-    let xs = a .requests .now in
-    let n = saying (a .flag) (a .identity) (a .start) (a .end) (pairs xs) in
-    let g = length (a .buf .now) in
-    let b = sym (c .before .before .before .before .before .before .before .before .before .before .before .bad-list .ensures) ∙ c .before .before .before .before .before .before .before .before .before .before .if1 .left in
-    let d = sym (c .before .before .before .before .before .before .before .before .before .bad-identity .ensures) ∙ c .before .before .before .before .before .before .before .before .if2 .left in
-    let s : a .start ≤ a .end = omega arith in
-    let r : requestsOutcome (pairs xs) ≡ accepted [] = sym (c .before .before .before .before .before .before .check-requests .ensures) ∙ ap requestsCase (c .before .before .before .before .enum-told2 .given .1) in
-    let e = good-list xs b in
-    let t : anyAbove (largestOf (a .flag)) (a .start ∷ a .end ∷ flat (pairs xs)) ≡ false = ap (λ (t : ℕ). anyAbove t (a .start ∷ a .end ∷ flat (pairs xs))) (sym (c .before .before .before .largest .ensures)) ∙ rw (flat-pairs xs (e .0)) (sym (c .before .before .any-number-above .ensures) ∙ c .before .if4 .left) in
-    let k = good-lengths (a .identity) d in
-    let w = f-high (a .flag) (2 + length xs) (c .field-length .ensures) (omega arith) in
+    let k = good-lengths (a .identity) (sym (c .before .before .before .before .before .before .before .before .before .bad-identity .ensures) ∙ c .before .before .before .before .before .before .before .before .if2 .left) in
+    let e = good-list (a .requests .now) (sym (c .before .before .before .before .before .before .before .before .before .before .before .bad-list .ensures) ∙ c .before .before .before .before .before .before .before .before .before .before .if1 .left) in
+    let w = f-high (a .flag) (2 + length (a .requests .now)) (c .field-length .ensures) (omega arith) in
     omega arith
 
--- src/writer.rt:63:17
 add-total-5 : tie.Need-add-total-5
 add-total-5 c =
     let a = c .before .before .before .before .before .before .before .before .before .before .before .before .before .before .args in
-    let xs = a .requests .now in
-    let n = saying (a .flag) (a .identity) (a .start) (a .end) (pairs xs) in
-    let g = length (a .buf .now) in
-    let b = sym (c .before .before .before .before .before .before .before .before .before .before .before .bad-list .ensures) ∙ c .before .before .before .before .before .before .before .before .before .before .if1 .left in
-    let d = sym (c .before .before .before .before .before .before .before .before .before .bad-identity .ensures) ∙ c .before .before .before .before .before .before .before .before .if2 .left in
-    let s : a .start ≤ a .end = omega arith in
-    let r : requestsOutcome (pairs xs) ≡ accepted [] = sym (c .before .before .before .before .before .before .check-requests .ensures) ∙ ap requestsCase (c .before .before .before .before .enum-told2 .given .1) in
-    let e = good-list xs b in
-    let t : anyAbove (largestOf (a .flag)) (a .start ∷ a .end ∷ flat (pairs xs)) ≡ false = ap (λ (t : ℕ). anyAbove t (a .start ∷ a .end ∷ flat (pairs xs))) (sym (c .before .before .before .largest .ensures)) ∙ rw (flat-pairs xs (e .0)) (sym (c .before .before .any-number-above .ensures) ∙ c .before .if4 .left) in
-    let k = good-lengths (a .identity) d in
-    let w = f-high (a .flag) (2 + length xs) (c .field-length .ensures) (omega arith) in
+    let k = good-lengths (a .identity) (sym (c .before .before .before .before .before .before .before .before .before .bad-identity .ensures) ∙ c .before .before .before .before .before .before .before .before .if2 .left) in
+    let e = good-list (a .requests .now) (sym (c .before .before .before .before .before .before .before .before .before .before .before .bad-list .ensures) ∙ c .before .before .before .before .before .before .before .before .before .before .if1 .left) in
+    let w = f-high (a .flag) (2 + length (a .requests .now)) (c .field-length .ensures) (omega arith) in
     omega arith
 
--- src/writer.rt:65:9
 returns-7 : tie.Need-returns-7
 returns-7 c =
     let a = c .before .before .before .before .before .before .before .before .before .before .before .before .before .before .before .args in
@@ -255,12 +174,10 @@ returns-7 c =
     let r : requestsOutcome (pairs xs) ≡ accepted [] = sym (c .before .before .before .before .before .before .before .check-requests .ensures) ∙ ap requestsCase (c .before .before .before .before .before .enum-told2 .given .1) in
     let e = good-list xs b in
     let t : anyAbove (largestOf (a .flag)) (a .start ∷ a .end ∷ flat (pairs xs)) ≡ false = ap (λ (t : ℕ). anyAbove t (a .start ∷ a .end ∷ flat (pairs xs))) (sym (c .before .before .before .before .largest .ensures)) ∙ rw (flat-pairs xs (e .0)) (sym (c .before .before .before .any-number-above .ensures) ∙ c .before .before .if4 .left) in
-    let k = good-lengths (a .identity) d in
     let p : 4 + 2 * (a .identity .«entity_length») + a .identity .«number_length» + (1 + c .before .field-length .result * (2 + length xs)) ≡ length (pdu n) = total-is n xs (c .before .field-length .ensures) refl (e .0) in
     let o = write-nak xs n g b 13 [] (nak-14 n d s r t (omega arith)) in
     rw o (refl, refl)
 
--- src/writer.rt:68:9
 returns-8 : tie.Need-returns-8
 returns-8 c =
     let a = c .before .before .before .before .before .before .before .before .before .before .before .before .before .before .before .before .args in
@@ -273,13 +190,11 @@ returns-8 c =
     let r : requestsOutcome (pairs xs) ≡ accepted [] = sym (c .before .before .before .before .before .before .before .before .check-requests .ensures) ∙ ap requestsCase (c .before .before .before .before .before .before .enum-told2 .given .1) in
     let e = good-list xs b in
     let t : anyAbove (largestOf (a .flag)) (a .start ∷ a .end ∷ flat (pairs xs)) ≡ false = ap (λ (t : ℕ). anyAbove t (a .start ∷ a .end ∷ flat (pairs xs))) (sym (c .before .before .before .before .before .largest .ensures)) ∙ rw (flat-pairs xs (e .0)) (sym (c .before .before .before .before .any-number-above .ensures) ∙ c .before .before .before .if4 .left) in
-    let k = good-lengths (a .identity) d in
     let p : 4 + 2 * (a .identity .«entity_length») + a .identity .«number_length» + (1 + c .before .before .field-length .result * (2 + length xs)) ≡ length (pdu n) = total-is n xs (c .before .before .field-length .ensures) refl (e .0) in
     let m = nak-fine n d s r t (omega arith) in
     let o = write-6 xs n g b m (λ z. c .if6 .taken (z ∙ sym p)) in
     rw (o, p) (refl, refl)
 
--- src/writer.rt:71:5
 write-at-requires : tie.Need-write-at-requires
 write-at-requires c κs =
     let a = c .before .before .before .before .before .before .before .before .before .before .before .before .before .before .before .before .before .args in
@@ -287,20 +202,14 @@ write-at-requires c κs =
     let n = saying (a .flag) (a .identity) (a .start) (a .end) (pairs xs) in
     let g = length (a .buf .now) in
     let b = sym (c .before .before .before .before .before .before .before .before .before .before .before .before .before .before .bad-list .ensures) ∙ c .before .before .before .before .before .before .before .before .before .before .before .before .before .if1 .left in
-    let d = sym (c .before .before .before .before .before .before .before .before .before .before .before .before .bad-identity .ensures) ∙ c .before .before .before .before .before .before .before .before .before .before .before .if2 .left in
-    let s : a .start ≤ a .end = omega arith in
-    let r : requestsOutcome (pairs xs) ≡ accepted [] = sym (c .before .before .before .before .before .before .before .before .before .check-requests .ensures) ∙ ap requestsCase (c .before .before .before .before .before .before .before .enum-told2 .given .1) in
     let e = good-list xs b in
-    let t : anyAbove (largestOf (a .flag)) (a .start ∷ a .end ∷ flat (pairs xs)) ≡ false = ap (λ (t : ℕ). anyAbove t (a .start ∷ a .end ∷ flat (pairs xs))) (sym (c .before .before .before .before .before .before .largest .ensures)) ∙ rw (flat-pairs xs (e .0)) (sym (c .before .before .before .before .before .any-number-above .ensures) ∙ c .before .before .before .before .if4 .left) in
-    let k = good-lengths (a .identity) d in
+    let k = good-lengths (a .identity) (sym (c .before .before .before .before .before .before .before .before .before .before .before .before .bad-identity .ensures) ∙ c .before .before .before .before .before .before .before .before .before .before .before .if2 .left) in
     let p : 4 + 2 * (a .identity .«entity_length») + a .identity .«number_length» + (1 + c .before .before .before .field-length .result * (2 + length xs)) ≡ length (pdu n) = total-is n xs (c .before .before .before .field-length .ensures) refl (e .0) in
     rw (all-entries xs (e .0)) (k, omega arith, omega arith)
 
--- src/writer.rt:28:1
 same-length : tie.Need-same-length
 same-length c = search needs
 
--- src/writer.rt:28:1
 returns-9 : tie.Need-returns-9
 returns-9 c =
     let a = c .before .before .before .before .before .before .before .before .before .before .before .before .before .before .before .before .before .before .before .before .args in
@@ -313,7 +222,6 @@ returns-9 c =
     let r : requestsOutcome (pairs xs) ≡ accepted [] = sym (c .before .before .before .before .before .before .before .before .before .before .before .before .check-requests .ensures) ∙ ap requestsCase (c .before .before .before .before .before .before .before .before .before .before .enum-told2 .given .1) in
     let e = good-list xs b in
     let t : anyAbove (largestOf (a .flag)) (a .start ∷ a .end ∷ flat (pairs xs)) ≡ false = ap (λ (t : ℕ). anyAbove t (a .start ∷ a .end ∷ flat (pairs xs))) (sym (c .before .before .before .before .before .before .before .before .before .largest .ensures)) ∙ rw (flat-pairs xs (e .0)) (sym (c .before .before .before .before .before .before .before .before .any-number-above .ensures) ∙ c .before .before .before .before .before .before .before .if4 .left) in
-    let k = good-lengths (a .identity) d in
     let p : 4 + 2 * (a .identity .«entity_length») + a .identity .«number_length» + (1 + c .before .before .before .before .before .before .field-length .result * (2 + length xs)) ≡ length (pdu n) = total-is n xs (c .before .before .before .before .before .before .field-length .ensures) refl (e .0) in
     let m = nak-fine n d s r t (omega arith) in
     let o = write-fine xs n g b m (c .before .before .before .before .if6 .left ∙ p) in

@@ -1,3 +1,4 @@
+-- `nak_parser::inner::check_packet` meets its contract. The loop's invariant: the outcome of the requests ahead is that of all.
 use native.Mathlib.Nat.{mul-zero, mul-suc, add-zero, sub-zero}
 use Rattle.nak.proofs.Requests.{late-start, empty-one, fine-one, not-first}
 use Rattle.nak_parser.proofs.Turn.{packet-turn}
@@ -6,18 +7,13 @@ use Rattle.nak.specs.Request.{requestsFrom, requestsOutcome}
 use Rattle.octets.proofs.Turns.{room-all}
 use native.Mathlib.Numerals.{add-one}
 use lib.Dec.{eqb}
-use borrow.Author.Tests.{lt-ltb, le-ltb, eq-eqb, ne-eqb, not-true, not-false}
 use borrow.Author.Needs.{needs}
 use native.Mathlib.Omega.{arith}
-use Prim.Native.Nat.{ℕ, suc, _+_, _*_, _-_, _≤_, _<_}
-use mathlib.Core.Path.{_≡_, refl, sym, ap, _∙_}
-use lib.ListN.{length, getD, take, drop, set}
+use Prim.Native.Nat.{suc, _+_, _*_, _-_, _≤_}
+use mathlib.Core.Path.{_≡_, sym, _∙_}
+use lib.ListN.{drop}
 use Rattle.nak_parser.proofs.inner.check_packet.Statement.{statement}
 use Rattle.nak_parser.proofs.inner.check_packet.Tie as tie
-use Rattle.nak_parser.proofs.inner.check_packet.Reads as reads
-use Rattle.nak_parser.proofs.inner.check_packet.Lts as lts
-use Rattle.nak.proofs.inner.is_empty.Reads as is-empty-reads
-use Rattle.octets.proofs.inner.get.Reads as get-reads
 
 abbrev Inv-loop : tie.InvT-loop
 Inv-loop packet from f count at₀ i₀ at i = (i ≤ count) × (at ≡ from + 2 * f * i) × (requestsFrom (eqb i 0) (requestsIn f (count - i) (drop at packet)) ≡ requestsOutcome (requestsIn f count (drop from packet)))
@@ -25,11 +21,9 @@ Inv-loop packet from f count at₀ i₀ at i = (i ≤ count) × (at ≡ from + 2
 abbrev μ-loop : tie.MeasureT-loop
 μ-loop packet from f count at₀ i₀ at i = count - i
 
--- src/inner.rt:78:5
 loop-holds : tie.Need-loop-holds Inv-loop μ-loop
 loop-holds c = (search needs, rw (mul-zero, add-zero), rw sub-zero)
 
--- src/inner.rt:79:13
 get-requires : tie.Need-get-requires Inv-loop μ-loop
 get-requires c κs =
     let l = c .before .loop in
@@ -37,7 +31,6 @@ get-requires c κs =
     let k = room-all (2 * a .f) (l .i) (a .count) (omega arith) in
     omega arith
 
--- src/inner.rt:80:29
 add-get : tie.Need-add-get Inv-loop μ-loop
 add-get c =
     let l = c .before .before .loop in
@@ -45,7 +38,6 @@ add-get c =
     let k = room-all (2 * a .f) (l .i) (a .count) (omega arith) in
     omega arith
 
--- src/inner.rt:80:13
 get-requires-2 : tie.Need-get-requires-2 Inv-loop μ-loop
 get-requires-2 c κs =
     let l = c .before .before .loop in
@@ -53,7 +45,6 @@ get-requires-2 c κs =
     let k = room-all (2 * a .f) (l .i) (a .count) (omega arith) in
     omega arith
 
--- src/inner.rt:82:13
 returns : tie.Need-returns Inv-loop μ-loop
 returns c =
     let l = c .before .before .before .before .loop in
@@ -64,11 +55,9 @@ returns c =
     let v = rw m at (l .inv .2) in
     sym (late-start (eqb (l .i) 0) t (c .if1 .taken)) ∙ v
 
--- src/inner.rt:84:12
 is-empty-requires : tie.Need-is-empty-requires Inv-loop μ-loop
 is-empty-requires c κs = search needs
 
--- src/inner.rt:85:13
 returns-2 : tie.Need-returns-2 Inv-loop μ-loop
 returns-2 c =
     let l = c .before .before .before .before .before .before .loop in
@@ -79,11 +68,9 @@ returns-2 c =
     let v = rw m at (l .inv .2) in
     sym (empty-one (eqb (l .i) 0) t (omega arith) (sym (c .before .is-empty .ensures) ∙ c .if2 .taken)) ∙ v
 
--- src/inner.rt:87:15
 mul-at : tie.Need-mul-at Inv-loop μ-loop
 mul-at c = search needs
 
--- src/inner.rt:87:9
 add-at : tie.Need-add-at Inv-loop μ-loop
 add-at c =
     let l = c .before .before .before .before .before .before .loop in
@@ -91,15 +78,12 @@ add-at c =
     let k = room-all (2 * a .f) (l .i) (a .count) (omega arith) in
     omega arith
 
--- src/inner.rt:88:9
 add-i : tie.Need-add-i Inv-loop μ-loop
 add-i c = search needs
 
--- src/inner.rt:78:5
 loop-less : tie.Need-loop-less Inv-loop μ-loop
 loop-less c = search needs
 
--- src/inner.rt:78:5
 loop-again : tie.Need-loop-again Inv-loop μ-loop
 loop-again c =
     let l = c .before .before .before .before .before .before .loop in
@@ -110,7 +94,6 @@ loop-again c =
     let v = rw m at (l .inv .2) in
     (search needs, rw (add-one, mul-suc) (omega arith), rw not-first (sym (fine-one (eqb (l .i) 0) t (omega arith) (sym (c .before .is-empty .ensures) ∙ c .if2 .left)) ∙ v))
 
--- src/inner.rt:72:1
 returns-3 : tie.Need-returns-3 Inv-loop μ-loop
 returns-3 c =
     let l = c .before .loop in

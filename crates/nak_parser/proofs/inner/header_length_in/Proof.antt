@@ -1,22 +1,13 @@
-use Rattle.nak_parser.proofs.Reading.{is-scope, is-place, is-requests, field-low, field-high, entity-low, entity-high, number-low, number-high, header-is, header-high, length-low, right-length, right-data, shape-short, shape-15, shape-16, shape-17, shape-data, shape-fine, read-18, read-request, read-14, read-fine, shape-of, parsed-shape}
-use Rattle.nak_parser.specs.Parser.{octetAt, flagIn, fieldLengthIn, entityLengthIn, numberLengthIn, headerLengthIn, lengthField, scopeIn, requestsOf, identityIn, wrongLength, wrongData, acceptedParsed, parsedOf}
+-- `nak_parser::inner::header_length_in` meets its contract: it computes the definition, and the lengths are small.
+use Rattle.nak_parser.proofs.Reading.{entity-high, number-high, header-is}
 use native.Mathlib.Omega.{arith}
-use Prim.Native.Nat.{ℕ, suc, _+_, _*_, _-_, _≤_, _<_}
-use mathlib.Core.Path.{_≡_, refl, sym, ap, _∙_}
-use lib.ListN.{length, getD, take, drop, set}
 use borrow.Author.Needs.{needs}
 use Rattle.nak_parser.proofs.inner.header_length_in.Statement.{statement}
 use Rattle.nak_parser.proofs.inner.header_length_in.Tie as tie
-use Rattle.nak_parser.proofs.inner.header_length_in.Reads as reads
-use Rattle.nak_parser.proofs.inner.header_length_in.Lts as lts
-use Rattle.nak_parser.proofs.inner.entity_length_in.Reads as entity-length-in-reads
-use Rattle.nak_parser.proofs.inner.number_length_in.Reads as number-length-in-reads
 
--- src/inner.rt:89:13
 entity-length-in-requires : tie.Need-entity-length-in-requires
 entity-length-in-requires c κs = search needs
 
--- src/inner.rt:89:9
 mul-result : tie.Need-mul-result
 mul-result c =
     let p = c .before .before .args .packet .now in
@@ -24,7 +15,6 @@ mul-result c =
     let nh = number-high p in
     omega arith
 
--- src/inner.rt:89:5
 add-result : tie.Need-add-result
 add-result c =
     let p = c .before .before .args .packet .now in
@@ -32,11 +22,9 @@ add-result c =
     let nh = number-high p in
     omega arith
 
--- src/inner.rt:89:40
 number-length-in-requires : tie.Need-number-length-in-requires
 number-length-in-requires c κs = search needs
 
--- src/inner.rt:89:5
 add-result-2 : tie.Need-add-result-2
 add-result-2 c =
     let p = c .before .before .before .args .packet .now in
@@ -44,7 +32,6 @@ add-result-2 c =
     let nh = number-high p in
     omega arith
 
--- src/inner.rt:85:1
 returns : tie.Need-returns
 returns c =
     let p = c .before .before .before .args .packet .now in
