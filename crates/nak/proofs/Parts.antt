@@ -4,7 +4,7 @@ use mathlib.Core.Path.{_≡_, refl, ap, _∙_}
 use mathlib.Core.Bool.{Bool, true, false}
 use mathlib.Core.List.{List, _∷_, _++_}
 use Prim.Native.Nat.{ℕ, suc, _+_, _*_, _%_, _≤_}
-use native.Mathlib.Nat.{mul-add}
+use native.Mathlib.Nat.{mul-add, mul-assoc, mul-comm}
 use native.Mathlib.Omega.{arith}
 use lib.ListN.{length, take, drop, length-append, length-drop}
 use lib.Seq.{length-take-le}
@@ -18,7 +18,7 @@ use Rattle.octets.proofs.Fields.{length-field, length-fields}
 use Rattle.nak.specs.declared.Identity.{Identity}
 use Rattle.nak.specs.Pdu.{Nak, headerOctets, identityOctets, dataOctets, dataField, header, pdu, headerLength}
 use Rattle.nak.specs.Inner.{asked, pairsFrom, entries}
-use Rattle.nak.proofs.Flat.{flat-append, flat-pairs}
+use Rattle.nak.proofs.Flat.{flat-append, flat-pairs, length-flat}
 
 pub length-header : (g : LargeFileFlag) (i q n : ℕ) → length (headerOctets g i q n) ≡ 4
 unfolding headerOctets
@@ -99,3 +99,9 @@ pub total-is :
     → length xs % 2 ≡ 0
     → headerLength (n .identity .«entity_length») (n .identity .«number_length») + (1 + f * (2 + length xs)) ≡ length (pdu n)
 total-is n xs e h k = rw (length-pdu n, length-data (fieldLength (n .flag)) (n .scope) (n .requests), h, flat-pairs xs k, e)
+
+-- the PDU's length by its requests: H + 1 + 2F for the scope, and 2F for each request
+pub length-of-pdu : (n : Nak) → length (pdu n) ≡ headerLength (n .identity .«entity_length») (n .identity .«number_length») + 1 + 2 * fieldLength (n .flag) + 2 * fieldLength (n .flag) * length (n .requests)
+length-of-pdu n =
+    let f = fieldLength (n .flag) in
+    length-pdu n ∙ rw (length-data f (n .scope) (n .requests), length-flat (n .requests), mul-add f 2, ← mul-assoc f 2, mul-comm f 2) (omega arith)

@@ -52,7 +52,7 @@ written xs n buf = lent (writeOutcome xs n (length buf)) (pdu n) buf
 
 -- The number and values of each case.
 abbrev pub writeCase : WriteAnswer → Outcome
-writeCase (Written length) = accepted (length ∷ [])
+writeCase (Written n) = accepted (n ∷ [])
 writeCase EmptySegment = to.emptySegment
 writeCase (StartLargerThanEnd start end) = to.startLargerThanEnd start end
 writeCase (BufferSizeMissmatch needed given) = to.bufferSizeMissmatch needed given

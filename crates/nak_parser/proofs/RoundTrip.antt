@@ -22,9 +22,10 @@ use Rattle.nak.specs.Inner.{GoodLengths}
 use Rattle.nak.specs.Writer.{isBadList, nakOutcome, writeOutcome, written}
 use Rattle.nak.proofs.Flat.{length-flat, pairs-flat}
 use Rattle.nak.proofs.Checks.{numbersOf, GoodNumbers, not-bad-identity, NakFine, nak-of, fine-nak, write-fine, write-accepted}
-use Rattle.nak_parser.specs.Parser.{flagIn, fieldLengthIn, entityLengthIn, numberLengthIn, headerLengthIn, scopeAt, requestsAt, requestsIn, identityIn, scopeIn, requestsOf, nakIn, readOutcome}
+use Rattle.nak_parser.specs.declared.Parsed.{Parsed}
+use Rattle.nak_parser.specs.Parser.{parsedOf, acceptedParsed, flagIn, fieldLengthIn, entityLengthIn, numberLengthIn, headerLengthIn, scopeAt, requestsAt, requestsIn, identityIn, scopeIn, requestsOf, nakIn, readOutcome}
 use Rattle.nak_parser.proofs.Reading.{Read, read-of, header-is, entity-low, entity-high, number-low, number-high}
-use Rattle.nak_parser.proofs.Handed.{requests-at}
+use Rattle.nak_parser.proofs.Handed.{requests-at, parsed-accepted}
 use Rattle.nak_parser.proofs.Back.{nak-back, read-back}
 use Rattle.nak_parser.proofs.Forth.{part-low, f-is, requests-room, length-requests-in, pdu-forth}
 
@@ -37,6 +38,32 @@ read-written xs n buf z =
     let w = write-accepted xs n (length buf) z in
     let f = nak-of n (w .says) in
     rw (w .outcome) (read-back n f, nak-back n f)
+
+-- what `parse` hands back of an accepted packet is what the packet says
+pub record Says (p : List ℕ) (n : Nak) : Type 0 where
+  pub refusal : parsedOf p .refusal ≡ 0
+  pub identity : parsedOf p .identity ≡ n .identity
+  pub flag : parsedOf p .flag ≡ n .flag
+  pub scope-start : parsedOf p .«scope_start» ≡ n .scope .start
+  pub scope-end : parsedOf p .«scope_end» ≡ n .scope .end
+  pub requests : requestsOf p ≡ n .requests
+
+pub parsed-says : (p : List ℕ) (n : Nak) → readOutcome p ≡ accepted [] → nakIn p ≡ n → Says p n
+unfolding acceptedParsed
+parsed-says p n a e =
+    let h = parsed-accepted p a in
+    record {
+      refusal = rw h;
+      identity = ap (λ (z : Parsed). z .identity) h ∙ ap (λ (z : Nak). z .identity) e;
+      flag = ap (λ (z : Parsed). z .flag) h ∙ ap (λ (z : Nak). z .flag) e;
+      scope-start = ap (λ (z : Parsed). z .«scope_start») h ∙ ap (λ (z : Nak). z .scope .start) e;
+      scope-end = ap (λ (z : Parsed). z .«scope_end») h ∙ ap (λ (z : Nak). z .scope .end) e;
+      requests = ap (λ (z : Nak). z .requests) e;
+    }
+
+-- so parsing what was written hands back every field
+pub parsed-written : (xs : List ℕ) (n : Nak) (buf : List ℕ) → writeOutcome xs n (length buf) .number ≡ 0 → Says (written xs n buf) n
+parsed-written xs n buf z = let r = read-written xs n buf z in parsed-says (written xs n buf) n (r .0) (r .1)
 
 -- Every PDU of fields within the limits is accepted.
 pub pdu-accepted : (n : Nak) → nakOutcome n ≡ accepted [] → readOutcome (pdu n) ≡ accepted []

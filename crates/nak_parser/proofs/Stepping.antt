@@ -10,12 +10,11 @@ use lib.Dec.{eqb}
 use lib.ListN.{length, getD, drop, replicate}
 use lib.Seq.{drop-drop}
 use borrow.Author.Tests.{eqb-true}
-use Rattle.ranges.specs.Range.{Range}
-use Rattle.ranges.specs.Outcome.{Outcome, accepted, lent}
+use Rattle.ranges.specs.Outcome.{Outcome, accepted}
 use Rattle.nak_parser.specs.declared.Step.{Step}
 use Rattle.nak_parser.specs.declared.Step.the-variants.{Request, End}
 use Rattle.nak_parser.specs.Parser.{fieldLengthIn, requestsAt, requestsIn, requestsOf, readOutcome, parsedOf}
-use Rattle.nak_parser.specs.Step.{stepOutcome, placeAfter, stepCase, steps, givings}
+use Rattle.nak_parser.specs.Step.{stepOutcome, placeAfter, stepCase, steps, eachRequest, requestsGiven}
 use Rattle.nak_parser.proofs.Reading.{read-of, field-low}
 use Rattle.nak_parser.proofs.Handed.{part-of, at-end, not-at-end}
 use Rattle.nak_parser.proofs.Forth.{requests-room, length-requests-in}
@@ -27,7 +26,7 @@ ended p at zero h = refl
 ended p at (suc k) h = rw (at-end p at h, ended p at k h)
 
 -- with j requests left it gives them first
-pub going : (p : List ℕ) (j at k : ℕ) → length p - at ≡ j * (2 * fieldLengthIn p) → steps p at (j + k) ≡ givings (requestsIn (fieldLengthIn p) j (drop at p)) ++ replicate k (accepted [])
+pub going : (p : List ℕ) (j at k : ℕ) → length p - at ≡ j * (2 * fieldLengthIn p) → steps p at (j + k) ≡ eachRequest (requestsIn (fieldLengthIn p) j (drop at p)) ++ replicate k (accepted [])
 unfolding stepOutcome placeAfter
 going p zero at k h = rw zero-add (ended p at k (let l = field-low p in omega arith))
 going p (suc j) at k h =
@@ -37,11 +36,7 @@ going p (suc j) at k h =
     let n = not-at-end p at (omega arith) in
     rw (suc-add, n, drop-drop f at p, drop-drop (2 * f) at p, going p j (at + 2 * f) k (omega arith))
 
--- the requests that a reader gives: those of an accepted packet, and none of a refused one
-abbrev pub given : List ℕ → List Range
-given p = lent (readOutcome p) (requestsOf p) []
-
-stepping-if : (p : List ℕ) (k : ℕ) (t : Bool) → eqb (readOutcome p .number) 0 ≡ t → steps p (parsedOf p .next) (length (given p) + k) ≡ givings (given p) ++ replicate k (accepted [])
+stepping-if : (p : List ℕ) (k : ℕ) (t : Bool) → eqb (readOutcome p .number) 0 ≡ t → steps p (parsedOf p .next) (length (requestsGiven p) + k) ≡ eachRequest (requestsGiven p) ++ replicate k (accepted [])
 unfolding requestsOf
 stepping-if p k true e =
     let r = read-of p (eqb-true (readOutcome p .number) 0 e) in
@@ -55,7 +50,7 @@ stepping-if p k false e =
     rw (q .next, e, zero-add) (ended p (length p) k (omega arith))
 
 -- stepping from where reading left the reader
-pub stepping : (p : List ℕ) (k : ℕ) → steps p (parsedOf p .next) (length (given p) + k) ≡ givings (given p) ++ replicate k (accepted [])
+pub stepping : (p : List ℕ) (k : ℕ) → steps p (parsedOf p .next) (length (requestsGiven p) + k) ≡ eachRequest (requestsGiven p) ++ replicate k (accepted [])
 stepping p k = stepping-if p k (eqb (readOutcome p .number) 0) refl
 
 -- two steps with one outcome are equal

@@ -5,10 +5,10 @@ use mathlib.Core.List.{List, [], _∷_}
 use lib.Dec.{ltb}
 use lib.ListN.{length}
 use Rattle.ranges.specs.Range.{Range}
-use Rattle.ranges.specs.Outcome.{Outcome, accepted}
+use Rattle.ranges.specs.Outcome.{Outcome, accepted, lent}
 use Rattle.nak_parser.specs.declared.Step.{Step}
 use Rattle.nak_parser.specs.declared.Step.the-variants.{Request, End}
-use Rattle.nak_parser.specs.Parser.{fieldAt, fieldLengthIn}
+use Rattle.nak_parser.specs.Parser.{fieldAt, fieldLengthIn, requestsOf, readOutcome}
 
 -- Any reader with less than one request left is at its end: fewer than 2F octets from its place to the packet's end. F is that of
 -- the packet's large file flag; behind the packet's end there are no octets.
@@ -33,7 +33,11 @@ abbrev pub steps : List ℕ → ℕ → ℕ → List Outcome
 steps p at zero = []
 steps p at (suc k) = stepOutcome p at ∷ steps p (placeAfter p at) k
 
--- What a reader of these requests gives: each of them.
-abbrev pub givings : List Range → List Outcome
-givings [] = []
-givings (r ∷ rs) = accepted (r .start ∷ r .end ∷ []) ∷ givings rs
+-- Each request as a step gives it.
+abbrev pub eachRequest : List Range → List Outcome
+eachRequest [] = []
+eachRequest (r ∷ rs) = accepted (r .start ∷ r .end ∷ []) ∷ eachRequest rs
+
+-- The requests that a reader gives from where reading left it: those of an accepted packet, and none of a refused one.
+abbrev pub requestsGiven : List ℕ → List Range
+requestsGiven p = lent (readOutcome p) (requestsOf p) []

@@ -6,9 +6,9 @@ use Prim.Native.Nat.{ℕ, zero, suc, _+_}
 use lib.ListN.{length, replicate}
 use denote.Ref.{RefT, now}
 use Rattle.ranges.specs.Outcome.{Outcome, accepted}
-use Rattle.nak_parser.specs.Step.{stepOutcome, steps, givings}
+use Rattle.nak_parser.specs.Step.{stepOutcome, steps, eachRequest, requestsGiven}
 use Rattle.nak_parser.proofs.Handed.{part-of}
-use Rattle.nak_parser.proofs.Stepping.{given, stepping}
+use Rattle.nak_parser.proofs.Stepping.{stepping}
 use Rattle.nak_reader.specs.declared.NakReader.{NakReader}
 use Rattle.nak_reader.specs.Reader.{readerOf, readerAfter, readings}
 
@@ -17,9 +17,9 @@ steps-of : (k : ℕ) (r : NakReader) → readings r k ≡ steps (now (r .packet)
 steps-of zero r = refl
 steps-of (suc k) r = ap (λ (os : List Outcome). stepOutcome (now (r .packet)) (r .at) ∷ os) (steps-of k (readerAfter r))
 
--- `given` are the requests of an accepted packet, and none of a refused one
-pub reading : (p : RefT (List ℕ)) (k : ℕ) → readings (readerOf p) (length (given (now p)) + k) ≡ givings (given (now p)) ++ replicate k (accepted [])
+-- from the reader that reading hands back
+pub reading : (p : RefT (List ℕ)) (k : ℕ) → readings (readerOf p) (length (requestsGiven (now p)) + k) ≡ eachRequest (requestsGiven (now p)) ++ replicate k (accepted [])
 reading p k =
-    steps-of (length (given (now p)) + k) (readerOf p)
-    ∙ ap (λ (at : ℕ). steps (now p) at (length (given (now p)) + k)) (sym (part-of (now p) .next))
+    steps-of (length (requestsGiven (now p)) + k) (readerOf p)
+    ∙ ap (λ (at : ℕ). steps (now p) at (length (requestsGiven (now p)) + k)) (sym (part-of (now p) .next))
     ∙ stepping (now p) k
