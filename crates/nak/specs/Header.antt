@@ -13,10 +13,11 @@ fixed0 = 1 * 32 + 0 * 16 + 1 * 8 + 0 * 4 + 0 * 2
 abbrev pub fixed3 : ℕ
 fixed3 = 0 * 128 + 0 * 8
 
--- What an octet has at the places of the fixed bits.
+-- What an octet 0 has at the places of the fixed bits: all but the lowest.
 abbrev pub fixedBits0 : ℕ → ℕ
 fixedBits0 o = o / 2 * 2
 
+-- Of octet 3, the top bit and the fourth from below.
 abbrev pub fixedBits3 : ℕ → ℕ
 fixedBits3 o = o / 128 * 128 + o / 8 % 2 * 8
 
@@ -41,7 +42,7 @@ octet3 i q = fixed3 + (i - 1) * 16 + (q - 1)
 abbrev pub flagOf : ℕ → LargeFileFlag
 flagOf o0 = cond (eqb (o0 % 2) 0) Normal Large
 
--- The lengths that octet 3 says.
+-- The entity identifier length and the sequence number length that octet 3 says.
 abbrev pub entityLengthOf : ℕ → ℕ
 entityLengthOf o3 = o3 / 16 % 8 + 1
 

@@ -17,6 +17,7 @@ pub record Nak : Type 0 where
   pub scope : Range
   pub requests : List Range
 
+-- The NAK with this flag, identity, scope (start and end) and list of requests.
 abbrev pub saying : LargeFileFlag → Identity → ℕ → ℕ → List Range → Nak
 saying g d a b rs = record { flag = g; identity = d; scope = range a b; requests = rs }
 
@@ -28,6 +29,7 @@ nakCode = 8
 unfoldable pub dataOctets : ℕ → Range → List Range → List ℕ
 dataOctets f scope rs = field 1 nakCode ++ fields f (scope .start ∷ scope .end ∷ flat rs)
 
+-- The data field of a NAK: F is that of its flag.
 abbrev pub dataField : Nak → List ℕ
 dataField n = dataOctets (fieldLength (n .flag)) (n .scope) (n .requests)
 
@@ -35,6 +37,7 @@ dataField n = dataOctets (fieldLength (n .flag)) (n .scope) (n .requests)
 unfoldable pub headerOctets : LargeFileFlag → ℕ → ℕ → ℕ → List ℕ
 headerOctets g i q len = field 1 (octet0 g) ++ (field 2 len ++ field 1 (octet3 i q))
 
+-- The same of a NAK.
 abbrev pub header : Nak → List ℕ
 header n = headerOctets (n .flag) (n .identity .«entity_length») (n .identity .«number_length») (length (dataField n))
 
@@ -46,6 +49,6 @@ identityOctets d = field (d .«entity_length») (d .source) ++ (field (d .«numb
 abbrev pub headerLength : ℕ → ℕ → ℕ
 headerLength i q = 4 + 2 * i + q
 
--- The whole PDU.
+-- The PDU: header, identity, data field.
 unfoldable pub pdu : Nak → List ℕ
 pdu n = header n ++ (identityOctets (n .identity) ++ dataField n)

@@ -21,11 +21,12 @@ requestOutcome first r =
     cond (ltb (r .end) (r .start)) (startLargerThanEnd (r .start) (r .end))
     (cond (eqb (r .start) (r .end) && not (first && isMetadata r)) emptySegment (accepted []))
 
--- Each request in order; a request (0, 0) may stand only first.
+-- Each request in order; a request (0, 0) may stand only first: `first` says whether one may stand here.
 abbrev pub requestsFrom : Bool → List Range → Outcome
 requestsFrom first [] = accepted []
 requestsFrom first (r ∷ rs) = following (requestOutcome first r) (requestsFrom false rs)
 
+-- A list of requests, from the first on.
 abbrev pub requestsOutcome : List Range → Outcome
 requestsOutcome rs = requestsFrom true rs
 

@@ -25,30 +25,34 @@ octetAt p at = getD p at 0
 abbrev pub fieldAt : List ℕ → ℕ → ℕ → ℕ
 fieldAt p at f = number (take f (drop at p))
 
--- The large file flag, F, I and Q of a packet.
+-- The large file flag of a packet.
 unfoldable pub flagIn : List ℕ → LargeFileFlag
 flagIn p = flagOf (octetAt p 0)
 
+-- F, by the flag.
 unfoldable pub fieldLengthIn : List ℕ → ℕ
 fieldLengthIn p = fieldLength (flagIn p)
 
+-- I and Q, in octet 3.
 unfoldable pub entityLengthIn : List ℕ → ℕ
 entityLengthIn p = entityLengthOf (octetAt p 3)
 
 unfoldable pub numberLengthIn : List ℕ → ℕ
 numberLengthIn p = numberLengthOf (octetAt p 3)
 
--- H of a packet, and its length field, octets 1 and 2.
+-- H = 4 + 2I + Q.
 unfoldable pub headerLengthIn : List ℕ → ℕ
 headerLengthIn p = headerLength (entityLengthIn p) (numberLengthIn p)
 
+-- The length field, octets 1 and 2.
 unfoldable pub lengthField : List ℕ → ℕ
 lengthField p = fieldAt p 1 2
 
--- Where the scope starts, behind the directive code, and where the requests start, behind the scope.
+-- Where the scope starts: behind the directive code.
 unfoldable pub scopeAt : List ℕ → ℕ
 scopeAt p = headerLengthIn p + 1
 
+-- Where the requests start: behind the scope.
 unfoldable pub requestsAt : List ℕ → ℕ
 requestsAt p = scopeAt p + 2 * fieldLengthIn p
 
@@ -68,6 +72,7 @@ identityIn p =
       destination = fieldAt p (4 + entityLengthIn p + numberLengthIn p) (entityLengthIn p);
     }
 
+-- Scope start, scope end.
 unfoldable pub scopeIn : List ℕ → Range
 scopeIn p = range (fieldAt p (scopeAt p) (fieldLengthIn p)) (fieldAt p (scopeAt p + fieldLengthIn p) (fieldLengthIn p))
 
@@ -83,6 +88,7 @@ nakIn p = record { flag = flagIn p; identity = identityIn p; scope = scopeIn p; 
 abbrev pub isWrongLength : ℕ → ℕ → ℕ → Bool
 isWrongLength total h len = eqb len 0 || not (eqb total (h + len))
 
+-- The same of a packet.
 unfoldable pub wrongLength : List ℕ → Bool
 wrongLength p = isWrongLength (length p) (headerLengthIn p) (lengthField p)
 
@@ -90,6 +96,7 @@ wrongLength p = isWrongLength (length p) (headerLengthIn p) (lengthField p)
 abbrev pub isWrongData : ℕ → ℕ → Bool
 isWrongData len f = ltb len (1 + 2 * f) || not (eqb ((len - (1 + 2 * f)) % (2 * f)) 0)
 
+-- The same of a packet.
 unfoldable pub wrongData : List ℕ → Bool
 wrongData p = isWrongData (lengthField p) (fieldLengthIn p)
 
@@ -144,16 +151,19 @@ acceptedParsed p =
       next = requestsAt p;
     }
 
+-- Either, by the outcome.
 abbrev pub parsed : Outcome → List ℕ → Parsed
 parsed o p = cond (eqb (o .number) 0) (acceptedParsed p) (refusedParsed (o .number) (getD (o .values) 0 0) (getD (o .values) 1 0) (length p))
 
+-- What reading hands back of a packet.
 unfoldable pub parsedOf : List ℕ → Parsed
 parsedOf p = parsed (readOutcome p) p
 
 -- The requests as the caller's own octets: the part of an accepted packet from behind the scope to its end, and of a refused one
--- an empty part at octet 0. The octets of the part, and where it starts in the caller's memory.
+-- an empty part at octet 0.
 abbrev pub requestsPart : List ℕ → List ℕ
 requestsPart p = lent (readOutcome p) (drop (requestsAt p) p) []
 
+-- Where that part starts in the caller's own memory: the packet's block, and the start past its offset.
 abbrev pub requestsPtr : RefT (List ℕ) → ℕ × ℕ
 requestsPtr p = (ptr p .0, lent (readOutcome (now p)) (requestsAt (now p)) 0 + ptr p .1)
