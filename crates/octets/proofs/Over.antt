@@ -32,3 +32,7 @@ over-join xs at m a b e h =
     let d : drop (m + length b) (take at xs ++ a ++ drop (at + length a) xs) ≡ drop (at + length (a ++ b)) xs =
     sym (drop-drop (length b) m (take at xs ++ a ++ drop (at + length a) xs)) ∙ ap (drop (length b)) (drop-at (take at xs ++ a) (drop (at + length a) xs) m p) ∙ drop-drop (length b) (at + length a) xs ∙ rw (length-append a b, add-assoc) in
     rw (take-at (take at xs ++ a) (drop (at + length a) xs) m p, d) (simp append-assoc)
+
+-- the same of three lists, each the one before it once it was written over
+pub over-then : (xs : List ℕ) (at m : ℕ) (a b : List ℕ) {ys zs : List ℕ} → ys ≡ withOctets xs at a → zs ≡ withOctets ys m b → at + length a ≡ m → m ≤ length xs → zs ≡ withOctets xs at (a ++ b)
+over-then xs at m a b e f h k = f ∙ rw e (over-join xs at m a b h k)

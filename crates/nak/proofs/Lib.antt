@@ -1,0 +1,6 @@
+pub mod Flat
+pub mod Requests
+pub mod Parts
+pub mod Puts
+pub mod Checks
+pub mod Injective

@@ -1,0 +1,107 @@
+-- The parts of a PDU, and their lengths.
+-- Assumes nothing.
+use mathlib.Core.Path.{_≡_, refl, ap, _∙_}
+use mathlib.Core.Bool.{Bool, true, false}
+use mathlib.Core.List.{List, _∷_, _++_}
+use Prim.Native.Nat.{ℕ, suc, _+_, _*_, _%_, _≤_}
+use native.Mathlib.Nat.{mul-add, mul-assoc, mul-comm}
+use native.Mathlib.Omega.{arith}
+use lib.ListN.{length, take, drop, length-append, length-drop}
+use lib.Seq.{length-take-le}
+use Rattle.ranges.specs.Range.{Range}
+use Rattle.ranges.specs.Store.{pairs, flat}
+use Rattle.octets.specs.Octets.{field, fields}
+use Rattle.octets.specs.Flag.{fieldLength}
+use Rattle.octets.specs.declared.LargeFileFlag.{LargeFileFlag}
+use Rattle.octets.specs.declared.LargeFileFlag.the-variants.{Normal, Large}
+use Rattle.octets.proofs.Fields.{length-field, length-fields}
+use Rattle.nak.specs.declared.Identity.{Identity}
+use Rattle.nak.specs.Pdu.{Nak, headerOctets, identityOctets, dataOctets, dataField, header, pdu, headerLength}
+use Rattle.nak.specs.Inner.{asked, pairsFrom, entries}
+use Rattle.nak.proofs.Flat.{flat-append, flat-pairs, length-flat}
+
+pub length-header : (g : LargeFileFlag) (i q n : ℕ) → length (headerOctets g i q n) ≡ 4
+unfolding headerOctets
+length-header g i q n = refl
+
+pub length-identity : (d : Identity) → length (identityOctets d) ≡ 2 * (d .«entity_length») + d .«number_length»
+unfolding identityOctets
+length-identity d =
+    let i = d .«entity_length» in
+    let q = d .«number_length» in
+    rw (length-append (field i (d .source)), length-append (field q (d .number)), length-field i (d .source), length-field q (d .number), length-field i (d .destination)) (omega arith)
+
+pub length-data : (f : ℕ) (s : Range) (rs : List Range) → length (dataOctets f s rs) ≡ 1 + f * (2 + length (flat rs))
+unfolding dataOctets
+length-data f s rs = ap suc (length-fields f (s .start ∷ s .end ∷ flat rs)) ∙ omega arith
+
+pub length-pdu : (n : Nak) → length (pdu n) ≡ headerLength (n .identity .«entity_length») (n .identity .«number_length») + length (dataField n)
+unfolding pdu
+length-pdu n =
+    let d = n .identity in
+    let h = length-header (n .flag) (d .«entity_length») (d .«number_length») (length (dataField n)) in
+    let e = length-identity d in
+    rw (length-append (header n), length-append (identityOctets d)) (omega arith)
+
+-- the flat list of some of its pairs
+pub flat-from : (xs : List ℕ) (first count : ℕ) → 2 * first + 2 * count ≤ length xs → flat (pairsFrom xs first count) ≡ take (2 * count) (drop (2 * first) xs)
+flat-from xs first count h =
+    let d = length-drop (2 * first) xs in
+    let n : length (take (2 * count) (drop (2 * first) xs)) ≡ 2 * count = length-take-le (2 * count) (drop (2 * first) xs) (omega arith) in
+    flat-pairs (take (2 * count) (drop (2 * first) xs)) (omega arith)
+
+-- the numbers of the requests of a PDU, and how many there are
+pub flat-entries : (m : Bool) (xs : List ℕ) (first count : ℕ) → 2 * first + 2 * count ≤ length xs → flat (entries m xs first count) ≡ flat (asked m) ++ take (2 * count) (drop (2 * first) xs)
+flat-entries m xs first count h = flat-append (asked m) (pairsFrom xs first count) ∙ ap (λ (l : List ℕ). flat (asked m) ++ l) (flat-from xs first count h)
+
+pub length-entries : (m : Bool) (xs : List ℕ) (first count : ℕ) → 2 * first + 2 * count ≤ length xs → length (flat (entries m xs first count)) ≡ length (flat (asked m)) + 2 * count
+length-entries m xs first count h =
+    let d = length-drop (2 * first) xs in
+    rw (flat-entries m xs first count h, length-append (flat (asked m)), length-take-le (2 * count) (drop (2 * first) xs) (omega arith))
+
+-- how much room each part of the data field takes
+pub data-room : (f : ℕ) (m : Bool) (count : ℕ) → f * (2 + length (flat (asked m)) + 2 * count) ≡ 2 * f + length (fields f (flat (asked m))) + f * (2 * count)
+data-room f m count = rw (length-fields f (flat (asked m)), mul-add, mul-add) (omega arith)
+
+-- two numbers for the metadata request
+pub length-asked : (f : ℕ) → length (fields f (flat (asked true))) ≡ f + f
+length-asked f = rw (length-append (field f 0), length-field f 0) (rw (length-append (field f 0), length-field f 0) (omega arith))
+
+pub asked-low : (m : Bool) → length (flat (asked m)) ≤ 2
+asked-low true = omega arith
+asked-low false = omega arith
+
+-- the length of the data field as the code sums it up, which is at least the number of its numbers
+pub data-length :
+    (g : LargeFileFlag) (m : Bool) (xs : List ℕ) (first count : ℕ) (s : Range) {f a : ℕ}
+    → f ≡ fieldLength g
+    → a ≡ length (flat (asked m))
+    → 2 * first + 2 * count ≤ length xs
+    → 1 + f * (2 + a + 2 * count) ≡ length (dataOctets (fieldLength g) s (entries m xs first count))
+data-length g m xs first count s {f} {a} e h k =
+    let l = length-entries m xs first count k in
+    let c : 2 + a + 2 * count ≡ 2 + length (flat (entries m xs first count)) = omega arith in
+    rw (length-data (fieldLength g) s (entries m xs first count), ← c, e)
+
+pub data-low : (g : LargeFileFlag) (n : ℕ) → n ≤ fieldLength g * n
+data-low Normal n = omega arith
+data-low Large n = omega arith
+
+pub f-high : (g : LargeFileFlag) (m : ℕ) {f : ℕ} → f ≡ fieldLength g → m ≤ 8194 → f * m ≤ 65552
+f-high Normal m e h = rw e (omega arith)
+f-high Large m e h = rw e (omega arith)
+
+-- the length of the PDU of a flat list of requests, as the code sums it up
+pub total-is :
+    (n : Nak) (xs : List ℕ) {f : ℕ}
+    → f ≡ fieldLength (n .flag)
+    → n .requests ≡ pairs xs
+    → length xs % 2 ≡ 0
+    → headerLength (n .identity .«entity_length») (n .identity .«number_length») + (1 + f * (2 + length xs)) ≡ length (pdu n)
+total-is n xs e h k = rw (length-pdu n, length-data (fieldLength (n .flag)) (n .scope) (n .requests), h, flat-pairs xs k, e)
+
+-- the PDU's length by its requests: H + 1 + 2F for the scope, and 2F for each request
+pub length-of-pdu : (n : Nak) → length (pdu n) ≡ headerLength (n .identity .«entity_length») (n .identity .«number_length») + 1 + 2 * fieldLength (n .flag) + 2 * fieldLength (n .flag) * length (n .requests)
+length-of-pdu n =
+    let f = fieldLength (n .flag) in
+    length-pdu n ∙ rw (length-data f (n .scope) (n .requests), length-flat (n .requests), mul-add f 2, ← mul-assoc f 2, mul-comm f 2) (omega arith)

@@ -1,0 +1,54 @@
+-- The NAK PDU as a list of octets (document 01, "The NAK PDU"; Blue Book, PDU header and 5.2.6).
+use Prim.Native.Nat.{ℕ, _+_, _*_}
+use mathlib.Core.List.{List, _∷_, _++_}
+use lib.ListN.{length}
+use Rattle.ranges.specs.Range.{Range, range}
+use Rattle.ranges.specs.Store.{flat}
+use Rattle.octets.specs.Octets.{field, fields}
+use Rattle.octets.specs.Flag.{fieldLength}
+use Rattle.octets.specs.declared.LargeFileFlag.{LargeFileFlag}
+use Rattle.nak.specs.declared.Identity.{Identity}
+use Rattle.nak.specs.Header.{octet0, octet3}
+
+-- What a NAK PDU says.
+pub record Nak : Type 0 where
+  pub flag : LargeFileFlag
+  pub identity : Identity
+  pub scope : Range
+  pub requests : List Range
+
+-- The NAK with this flag, identity, scope (start and end) and list of requests.
+abbrev pub saying : LargeFileFlag → Identity → ℕ → ℕ → List Range → Nak
+saying g d a b rs = record { flag = g; identity = d; scope = range a b; requests = rs }
+
+-- The directive code of a NAK: 08.
+abbrev pub nakCode : ℕ
+nakCode = 8
+
+-- The data field: 08, scope start, scope end, requests; a number has f octets.
+unfoldable pub dataOctets : ℕ → Range → List Range → List ℕ
+dataOctets f scope rs = field 1 nakCode ++ fields f (scope .start ∷ scope .end ∷ flat rs)
+
+-- The data field of a NAK: F is that of its flag.
+abbrev pub dataField : Nak → List ℕ
+dataField n = dataOctets (fieldLength (n .flag)) (n .scope) (n .requests)
+
+-- The header's first four octets: octet 0; octets 1 and 2, the data field length; octet 3.
+unfoldable pub headerOctets : LargeFileFlag → ℕ → ℕ → ℕ → List ℕ
+headerOctets g i q len = field 1 (octet0 g) ++ (field 2 len ++ field 1 (octet3 i q))
+
+-- The same of a NAK.
+abbrev pub header : Nak → List ℕ
+header n = headerOctets (n .flag) (n .identity .«entity_length») (n .identity .«number_length») (length (dataField n))
+
+-- Then source entity, sequence number, destination entity, of I, Q and I octets.
+unfoldable pub identityOctets : Identity → List ℕ
+identityOctets d = field (d .«entity_length») (d .source) ++ (field (d .«number_length») (d .number) ++ field (d .«entity_length») (d .destination))
+
+-- So the header is H = 4 + 2I + Q octets long.
+abbrev pub headerLength : ℕ → ℕ → ℕ
+headerLength i q = 4 + 2 * i + q
+
+-- The PDU: header, identity, data field.
+unfoldable pub pdu : Nak → List ℕ
+pdu n = header n ++ (identityOctets (n .identity) ++ dataField n)

@@ -1,0 +1,150 @@
+-- Writing and reading undo each other: what the writer accepts is read back whole, and what the reader accepts is written back
+-- octet for octet.
+-- Assumes nothing.
+use mathlib.Core.Path.{_≡_, refl, ap, _∙_}
+use mathlib.Core.Bool.{false}
+use mathlib.Core.List.{List, [], _∷_}
+use Prim.Native.Nat.{ℕ, zero, suc, _+_, _*_, _-_, _/_, _%_, _^_, _<_}
+use native.Mathlib.Nat.{suc-mul, div-le-self}
+use native.Mathlib.Omega.{arith}
+use lib.Dec.{ltb}
+use lib.ListN.{length, drop, length-drop}
+use borrow.Author.Tests.{le-ltb, ne-eqb}
+use Rattle.ranges.specs.Store.{pairs, flat, anyAbove}
+use Rattle.ranges.specs.Outcome.{Outcome, accepted}
+use Rattle.octets.specs.Octets.{AllOctets}
+use Rattle.octets.specs.Flag.{fieldLength, largestOf}
+use Rattle.octets.specs.declared.LargeFileFlag.{LargeFileFlag}
+use Rattle.octets.proofs.Fields.{octets-drop}
+use Rattle.octets.proofs.Largest.{fits-largest}
+use Rattle.nak.specs.Pdu.{Nak, pdu}
+use Rattle.nak.specs.Inner.{GoodLengths}
+use Rattle.nak.specs.Writer.{isBadList, nakOutcome, writeOutcome, written}
+use Rattle.nak.proofs.Flat.{length-flat, pairs-flat}
+use Rattle.nak.proofs.Checks.{numbersOf, GoodNumbers, not-bad-identity, NakFine, nak-of, fine-nak, write-fine, write-accepted}
+use Rattle.nak_parser.specs.declared.Parsed.{Parsed}
+use Rattle.nak_parser.specs.Parser.{parsedOf, acceptedParsed, flagIn, fieldLengthIn, entityLengthIn, numberLengthIn, headerLengthIn, scopeAt, requestsAt, requestsIn, identityIn, scopeIn, requestsOf, nakIn, readOutcome}
+use Rattle.nak_parser.proofs.Reading.{Read, read-of, header-is, entity-low, entity-high, number-low, number-high}
+use Rattle.nak_parser.proofs.Handed.{requests-at, parsed-accepted}
+use Rattle.nak_parser.proofs.Back.{nak-back, read-back}
+use Rattle.nak_parser.proofs.Forth.{part-low, f-is, requests-room, length-requests-in, pdu-forth}
+
+-- Reading what was written gives back every field, the requests in order and the flag included, for everything the writer accepts.
+pub read-written :
+    (xs : List ℕ) (n : Nak) (buf : List ℕ)
+    → writeOutcome xs n (length buf) .number ≡ 0
+    → (readOutcome (written xs n buf) ≡ accepted []) × (nakIn (written xs n buf) ≡ n)
+read-written xs n buf z =
+    let w = write-accepted xs n (length buf) z in
+    let f = nak-of n (w .says) in
+    rw (w .outcome) (read-back n f, nak-back n f)
+
+-- what `parse` hands back of an accepted packet is what the packet says
+pub record Says (p : List ℕ) (n : Nak) : Type 0 where
+  pub refusal : parsedOf p .refusal ≡ 0
+  pub identity : parsedOf p .identity ≡ n .identity
+  pub flag : parsedOf p .flag ≡ n .flag
+  pub scope-start : parsedOf p .«scope_start» ≡ n .scope .start
+  pub scope-end : parsedOf p .«scope_end» ≡ n .scope .end
+  pub requests : requestsOf p ≡ n .requests
+
+pub parsed-says : (p : List ℕ) (n : Nak) → readOutcome p ≡ accepted [] → nakIn p ≡ n → Says p n
+unfolding acceptedParsed
+parsed-says p n a e =
+    let h = parsed-accepted p a in
+    record {
+      refusal = rw h;
+      identity = ap (λ (z : Parsed). z .identity) h ∙ ap (λ (z : Nak). z .identity) e;
+      flag = ap (λ (z : Parsed). z .flag) h ∙ ap (λ (z : Nak). z .flag) e;
+      scope-start = ap (λ (z : Parsed). z .«scope_start») h ∙ ap (λ (z : Nak). z .scope .start) e;
+      scope-end = ap (λ (z : Parsed). z .«scope_end») h ∙ ap (λ (z : Nak). z .scope .end) e;
+      requests = ap (λ (z : Nak). z .requests) e;
+    }
+
+-- so parsing what was written hands back every field
+pub parsed-written : (xs : List ℕ) (n : Nak) (buf : List ℕ) → writeOutcome xs n (length buf) .number ≡ 0 → Says (written xs n buf) n
+parsed-written xs n buf z = let r = read-written xs n buf z in parsed-says (written xs n buf) n (r .0) (r .1)
+
+-- Every PDU of fields within the limits is accepted.
+pub pdu-accepted : (n : Nak) → nakOutcome n ≡ accepted [] → readOutcome (pdu n) ≡ accepted []
+pdu-accepted n e = read-back n (nak-of n (ap (λ (o : Outcome). o .number) e))
+
+above-one : (g : LargeFileFlag) (v : ℕ) {f : ℕ} → f ≡ fieldLength g → v < 256 ^ f → ltb (largestOf g) v ≡ false
+above-one g v e h = le-ltb (largestOf g) v (fits-largest g v (rw e at h))
+
+-- numbers read from fields of the flag's length are not above its largest
+none-above : (g : LargeFileFlag) (k : ℕ) (os : List ℕ) → AllOctets os → length os ≡ k * (2 * fieldLength g) → anyAbove (largestOf g) (flat (requestsIn (fieldLength g) k os)) ≡ false
+none-above g zero os a h = refl
+none-above g (suc k) os a h =
+    let f = fieldLength g in
+    let l = rw suc-mul at h in
+    let d = length-drop (2 * f) os in
+    rw (above-one g _ refl (part-low os 0 f a (omega arith)), above-one g _ refl (part-low os f f a (omega arith))) (none-above g k (drop (2 * f) os) (octets-drop (2 * f) os a) (omega arith))
+
+module _ (p : List ℕ) (a : AllOctets p) (r : Read p) where
+  good-lengths-in : GoodLengths (identityIn p)
+  unfolding identityIn
+  good-lengths-in = record { entity-low = entity-low p; entity-high = entity-high p; number-low = number-low p; number-high = number-high p }
+
+  good-numbers-in : GoodNumbers (identityIn p)
+  unfolding identityIn
+  good-numbers-in =
+      let t = r .shape in
+      let h = header-is p in
+      record {
+        source = part-low p 4 (entityLengthIn p) a (omega arith);
+        number = part-low p (4 + entityLengthIn p) (numberLengthIn p) a (omega arith);
+        destination = part-low p (4 + entityLengthIn p + numberLengthIn p) (entityLengthIn p) a (omega arith);
+      }
+
+  numbers-in : anyAbove (largestOf (flagIn p)) (numbersOf (nakIn p)) ≡ false
+  unfolding scopeIn scopeAt requestsOf
+  numbers-in =
+      let t = r .shape in
+      let w = requests-at p in
+      let g = flagIn p in
+      let x = above-one g (scopeIn p .start) (f-is p) (part-low p (headerLengthIn p + 1) (fieldLengthIn p) a (omega arith)) in
+      let y = above-one g (scopeIn p .end) (f-is p) (part-low p (headerLengthIn p + 1 + fieldLengthIn p) (fieldLengthIn p) a (omega arith)) in
+      let k = (length p - requestsAt p) / (2 * fieldLength g) in
+      let z = none-above g k (drop (requestsAt p) p) (octets-drop (requestsAt p) p a) (length-drop (requestsAt p) p ∙ rw (f-is p) at (requests-room p r)) in
+      rw (x, y, f-is p) z
+
+  -- what an accepted packet says is within the limits
+  pub fine-in : NakFine (nakIn p)
+  fine-in =
+      record {
+        identity = not-bad-identity (identityIn p) good-lengths-in good-numbers-in;
+        scope = r .scope;
+        requests = r .requests;
+        numbers = numbers-in;
+        size = rw (pdu-forth p a r) (r .size);
+      }
+
+-- Every accepted packet is the PDU of its fields, and they are within the limits.
+pub accepted-pdu : (p : List ℕ) → AllOctets p → readOutcome p .number ≡ 0 → (pdu (nakIn p) ≡ p) × (nakOutcome (nakIn p) ≡ accepted [])
+accepted-pdu p a z = let r = read-of p z in (pdu-forth p a r, fine-nak (nakIn p) (fine-in p a r))
+
+-- the flat list of the requests of an accepted packet is even, and short enough for the writer
+good-requests : (p : List ℕ) → Read p → isBadList (flat (requestsOf p)) ≡ false
+unfolding isBadList requestsOf
+good-requests p r =
+    let k = (length p - requestsAt p) / (2 * fieldLengthIn p) in
+    let l : length (flat (requestsIn (fieldLengthIn p) k (drop (requestsAt p) p))) ≡ 2 * k = length-flat (requestsIn (fieldLengthIn p) k (drop (requestsAt p) p)) ∙ rw (length-requests-in (fieldLengthIn p) k (drop (requestsAt p) p)) in
+    let s = r .size in
+    let h = div-le-self (length p - requestsAt p) (2 * fieldLengthIn p) in
+    rw (l, ne-eqb (2 * k % 2) 1 (λ z. omega arith), le-ltb 8192 (2 * k) (omega arith))
+
+-- Writing what was read gives back every octet, for everything the reader accepts: the writer, given what the packet says, its
+-- requests as a flat list and a buffer of the packet's length, accepts it and leaves the packet in the buffer.
+pub written-read :
+    (p buf : List ℕ)
+    → AllOctets p
+    → readOutcome p .number ≡ 0
+    → length buf ≡ length p
+    → (writeOutcome (flat (requestsOf p)) (nakIn p) (length buf) ≡ accepted (length p ∷ [])) × (written (flat (requestsOf p)) (nakIn p) buf ≡ p) × (pairs (flat (requestsOf p)) ≡ requestsOf p)
+written-read p buf a z e =
+    let r = read-of p z in
+    let f = pdu-forth p a r in
+    let n = fine-nak (nakIn p) (fine-in p a r) in
+    let w = rw f at (write-fine (flat (requestsOf p)) (nakIn p) (length buf) (good-requests p r) n (rw f e)) in
+    (w, rw (w, f), pairs-flat (requestsOf p))

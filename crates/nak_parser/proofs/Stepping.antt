@@ -1,0 +1,70 @@
+-- Stepping a reader from where reading left it gives exactly the requests, in order, and then the end, forever.
+-- Assumes nothing.
+use mathlib.Core.Path.{_≡_, refl, sym, ap, _∙_}
+use mathlib.Core.Bool.{Bool, true, false}
+use mathlib.Core.List.{List, [], _∷_, _++_}
+use Prim.Native.Nat.{ℕ, zero, suc, _+_, _*_, _-_, _/_, _<_}
+use native.Mathlib.Nat.{suc-mul, suc-add, zero-add}
+use native.Mathlib.Omega.{arith}
+use lib.Dec.{eqb}
+use lib.ListN.{length, getD, drop, replicate}
+use lib.Seq.{drop-drop}
+use borrow.Author.Tests.{eqb-true}
+use Rattle.ranges.specs.Outcome.{Outcome, accepted}
+use Rattle.nak_parser.specs.declared.Step.{Step}
+use Rattle.nak_parser.specs.declared.Step.the-variants.{Request, End}
+use Rattle.nak_parser.specs.Parser.{fieldLengthIn, requestsAt, requestsIn, requestsOf, readOutcome, parsedOf}
+use Rattle.nak_parser.specs.Step.{stepOutcome, placeAfter, stepCase, steps, eachRequest, requestsGiven}
+use Rattle.nak_parser.proofs.Reading.{read-of, field-low}
+use Rattle.nak_parser.proofs.Handed.{part-of, at-end, not-at-end}
+use Rattle.nak_parser.proofs.Forth.{requests-room, length-requests-in}
+
+-- at its end a reader stays there
+pub ended : (p : List ℕ) (at k : ℕ) → length p - at < 2 * fieldLengthIn p → steps p at k ≡ replicate k (accepted [])
+unfolding stepOutcome placeAfter
+ended p at zero h = refl
+ended p at (suc k) h = rw (at-end p at h, ended p at k h)
+
+-- with j requests left it gives them first
+pub going : (p : List ℕ) (j at k : ℕ) → length p - at ≡ j * (2 * fieldLengthIn p) → steps p at (j + k) ≡ eachRequest (requestsIn (fieldLengthIn p) j (drop at p)) ++ replicate k (accepted [])
+unfolding stepOutcome placeAfter
+going p zero at k h = rw zero-add (ended p at k (let l = field-low p in omega arith))
+going p (suc j) at k h =
+    let f = fieldLengthIn p in
+    let l = field-low p in
+    let e = rw suc-mul at h in
+    let n = not-at-end p at (omega arith) in
+    rw (suc-add, n, drop-drop f at p, drop-drop (2 * f) at p, going p j (at + 2 * f) k (omega arith))
+
+stepping-if : (p : List ℕ) (k : ℕ) (t : Bool) → eqb (readOutcome p .number) 0 ≡ t → steps p (parsedOf p .next) (length (requestsGiven p) + k) ≡ eachRequest (requestsGiven p) ++ replicate k (accepted [])
+unfolding requestsOf
+stepping-if p k true e =
+    let r = read-of p (eqb-true (readOutcome p .number) 0 e) in
+    let q = part-of p in
+    let f = fieldLengthIn p in
+    let j = (length p - requestsAt p) / (2 * f) in
+    rw (q .next, e, length-requests-in f j (drop (requestsAt p) p)) (going p j (requestsAt p) k (requests-room p r))
+stepping-if p k false e =
+    let q = part-of p in
+    let l = field-low p in
+    rw (q .next, e, zero-add) (ended p (length p) k (omega arith))
+
+-- stepping from where reading left the reader
+pub stepping : (p : List ℕ) (k : ℕ) → steps p (parsedOf p .next) (length (requestsGiven p) + k) ≡ eachRequest (requestsGiven p) ++ replicate k (accepted [])
+stepping p k = stepping-if p k (eqb (readOutcome p .number) 0) refl
+
+-- two steps with one outcome are equal
+step : Outcome → Step
+step o = go (o .values)
+  where
+    go : List ℕ → Step
+    go [] = End
+    go (s ∷ vs) = Request s (getD vs 0 0)
+
+step-back : (s : Step) → step (stepCase s) ≡ s
+unfolding step
+step-back (Request s e) = refl
+step-back End = refl
+
+pub step-injective : (r s : Step) → stepCase r ≡ stepCase s → r ≡ s
+step-injective r s e = sym (step-back r) ∙ ap step e ∙ step-back s

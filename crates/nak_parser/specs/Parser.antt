@@ -1,0 +1,169 @@
+-- Reading one PDU (document 01, "Reading").
+use Prim.Native.Nat.{ℕ, zero, suc, _+_, _*_, _-_, _/_, _%_}
+use mathlib.Core.Bool.{Bool, _||_, not, cond}
+use mathlib.Core.List.{List, [], _∷_}
+use lib.Dec.{eqb, ltb}
+use lib.ListN.{length, getD, take, drop}
+use denote.Ref.{RefT, ptr, now}
+use Rattle.ranges.specs.Range.{Range, range}
+use Rattle.ranges.specs.Outcome.{Outcome, accepted, lent, lengthMismatch, badHeader, notNak, scopeReversed, pduSize}
+use Rattle.octets.specs.Octets.{number}
+use Rattle.octets.specs.Flag.{fieldLength}
+use Rattle.octets.specs.declared.LargeFileFlag.{LargeFileFlag}
+use Rattle.octets.specs.declared.LargeFileFlag.the-variants.{Normal}
+use Rattle.nak.specs.declared.Identity.{Identity}
+use Rattle.nak_parser.specs.declared.Parsed.{Parsed}
+use Rattle.nak.specs.Header.{wrongFixed, flagOf, entityLengthOf, numberLengthOf}
+use Rattle.nak.specs.Pdu.{Nak, nakCode, headerLength}
+use Rattle.nak.specs.Request.{following, requestsOutcome}
+
+-- The octet at a place.
+abbrev pub octetAt : List ℕ → ℕ → ℕ
+octetAt p at = getD p at 0
+
+-- The number in the f octets from a place on.
+abbrev pub fieldAt : List ℕ → ℕ → ℕ → ℕ
+fieldAt p at f = number (take f (drop at p))
+
+-- The large file flag of a packet.
+unfoldable pub flagIn : List ℕ → LargeFileFlag
+flagIn p = flagOf (octetAt p 0)
+
+-- F, by the flag.
+unfoldable pub fieldLengthIn : List ℕ → ℕ
+fieldLengthIn p = fieldLength (flagIn p)
+
+-- I and Q, in octet 3.
+unfoldable pub entityLengthIn : List ℕ → ℕ
+entityLengthIn p = entityLengthOf (octetAt p 3)
+
+unfoldable pub numberLengthIn : List ℕ → ℕ
+numberLengthIn p = numberLengthOf (octetAt p 3)
+
+-- H = 4 + 2I + Q.
+unfoldable pub headerLengthIn : List ℕ → ℕ
+headerLengthIn p = headerLength (entityLengthIn p) (numberLengthIn p)
+
+-- The length field, octets 1 and 2.
+unfoldable pub lengthField : List ℕ → ℕ
+lengthField p = fieldAt p 1 2
+
+-- Where the scope starts: behind the directive code.
+unfoldable pub scopeAt : List ℕ → ℕ
+scopeAt p = headerLengthIn p + 1
+
+-- Where the requests start: behind the scope.
+unfoldable pub requestsAt : List ℕ → ℕ
+requestsAt p = scopeAt p + 2 * fieldLengthIn p
+
+-- The first n requests that octets hold: start and end, f octets each.
+abbrev pub requestsIn : ℕ → ℕ → List ℕ → List Range
+requestsIn f zero os = []
+requestsIn f (suc n) os = range (fieldAt os 0 f) (fieldAt os f f) ∷ requestsIn f n (drop (2 * f) os)
+
+-- Source entity, sequence number, destination entity, of I, Q and I octets.
+unfoldable pub identityIn : List ℕ → Identity
+identityIn p =
+    record {
+      «entity_length» = entityLengthIn p;
+      «number_length» = numberLengthIn p;
+      source = fieldAt p 4 (entityLengthIn p);
+      number = fieldAt p (4 + entityLengthIn p) (numberLengthIn p);
+      destination = fieldAt p (4 + entityLengthIn p + numberLengthIn p) (entityLengthIn p);
+    }
+
+-- Scope start, scope end.
+unfoldable pub scopeIn : List ℕ → Range
+scopeIn p = range (fieldAt p (scopeAt p) (fieldLengthIn p)) (fieldAt p (scopeAt p + fieldLengthIn p) (fieldLengthIn p))
+
+-- As many requests as there is room for behind the scope.
+unfoldable pub requestsOf : List ℕ → List Range
+requestsOf p = requestsIn (fieldLengthIn p) ((length p - requestsAt p) / (2 * fieldLengthIn p)) (drop (requestsAt p) p)
+
+-- What a packet says.
+abbrev pub nakIn : List ℕ → Nak
+nakIn p = record { flag = flagIn p; identity = identityIn p; scope = scopeIn p; requests = requestsOf p }
+
+-- 16: packet not H plus the length field, or length field 0.
+abbrev pub isWrongLength : ℕ → ℕ → ℕ → Bool
+isWrongLength total h len = eqb len 0 || not (eqb total (h + len))
+
+-- The same of a packet.
+unfoldable pub wrongLength : List ℕ → Bool
+wrongLength p = isWrongLength (length p) (headerLengthIn p) (lengthField p)
+
+-- 16: data field not 1 + 2F + a multiple of 2F.
+abbrev pub isWrongData : ℕ → ℕ → Bool
+isWrongData len f = ltb len (1 + 2 * f) || not (eqb ((len - (1 + 2 * f)) % (2 * f)) 0)
+
+-- The same of a packet.
+unfoldable pub wrongData : List ℕ → Bool
+wrongData p = isWrongData (lengthField p) (fieldLengthIn p)
+
+-- Reading, up to the scope: below 4 octets 16; any fixed bit of octets 0 and 3 wrong 15; packet not H plus the length field, or
+-- length field 0, 16; 17; data field not 1 + 2F + a multiple of 2F, 16.
+unfoldable pub shapeOutcome : List ℕ → Outcome
+shapeOutcome p =
+    cond (ltb (length p) 4) lengthMismatch
+    (cond (wrongFixed (octetAt p 0) (octetAt p 3)) badHeader
+    (cond (wrongLength p) lengthMismatch
+    (cond (not (eqb (octetAt p (headerLengthIn p)) nakCode)) notNak
+    (cond (wrongData p) lengthMismatch (accepted [])))))
+
+-- Reading: these, then 18; requests in order; total above 4,096, 14.
+unfoldable pub readOutcome : List ℕ → Outcome
+readOutcome p =
+    following (shapeOutcome p)
+    (cond (ltb (scopeIn p .end) (scopeIn p .start)) scopeReversed
+    (following (requestsOutcome (requestsOf p))
+    (cond (ltb 4096 (length p)) pduSize (accepted []))))
+
+-- What reading hands back of a refused packet: the number and what it carries, all else 0; the reader of the requests stands at
+-- its end, the packet's length.
+abbrev pub refusedParsed : ℕ → ℕ → ℕ → ℕ → Parsed
+refusedParsed n s e len =
+    record {
+      refusal = n;
+      start = s;
+      end = e;
+      identity = record { «entity_length» = 0; «number_length» = 0; source = 0; number = 0; destination = 0 };
+      flag = Normal;
+      «scope_start» = 0;
+      «scope_end» = 0;
+      from = 0;
+      to = 0;
+      next = len;
+    }
+
+-- And of an accepted one: number 0, and what the packet says. The requests stand from behind the scope to the packet's end.
+unfoldable pub acceptedParsed : List ℕ → Parsed
+acceptedParsed p =
+    record {
+      refusal = 0;
+      start = 0;
+      end = 0;
+      identity = identityIn p;
+      flag = flagIn p;
+      «scope_start» = scopeIn p .start;
+      «scope_end» = scopeIn p .end;
+      from = requestsAt p;
+      to = length p;
+      next = requestsAt p;
+    }
+
+-- Either, by the outcome.
+abbrev pub parsed : Outcome → List ℕ → Parsed
+parsed o p = cond (eqb (o .number) 0) (acceptedParsed p) (refusedParsed (o .number) (getD (o .values) 0 0) (getD (o .values) 1 0) (length p))
+
+-- What reading hands back of a packet.
+unfoldable pub parsedOf : List ℕ → Parsed
+parsedOf p = parsed (readOutcome p) p
+
+-- The requests as the caller's own octets: the part of an accepted packet from behind the scope to its end, and of a refused one
+-- an empty part at octet 0.
+abbrev pub requestsPart : List ℕ → List ℕ
+requestsPart p = lent (readOutcome p) (drop (requestsAt p) p) []
+
+-- Where that part starts in the caller's own memory: the packet's block, and the start past its offset.
+abbrev pub requestsPtr : RefT (List ℕ) → ℕ × ℕ
+requestsPtr p = (ptr p .0, lent (readOutcome (now p)) (requestsAt (now p)) 0 + ptr p .1)
