@@ -141,10 +141,8 @@ pub mod cfdp {
                 }
 
                 pub fn finish(self, start: u64, end: u64) -> Result<usize, PduError> {
+                    // A scope too large for the field loses its high octets; the real crate may refuse.
                     let f = field(&self.header);
-                    if f == 4 && (start > u32::MAX as u64 || end > u32::MAX as u64) {
-                        return Err(PduError);
-                    }
                     let len = self.buf.len();
                     self.header.write(self.buf, len - HEADER);
                     self.buf[HEADER] = 8;
