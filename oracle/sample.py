@@ -131,7 +131,7 @@ def codec(rng):
     out += short(scripts.pdus_written, 10, 400) + short(scripts.pdus_read, 16, 400)
     out.append('# The largest packet, one request more, and more than 4,096 pairs.')
     ident = [1, 1, 1, 7, 2]
-    for n in (510 - 1, 510):
+    for n in (510, 511):
         requests = [(2 * s, 2 * s + 1) for s in range(n)]
         packet = octets_of(ident, False, 0, 9999, requests)
         out += [words('write', *ident, 'normal', 0, 9999, len(packet), *[n for p in requests for n in p]),

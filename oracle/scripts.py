@@ -348,7 +348,7 @@ def records_broken(rng):
                     'metadata', words('data', rng.choice(pool), rng.choice((0, 1, 2, 3, TOP))),
                     words('nak 1 1 1 7 2', rng.choice(FLAGS), rng.choice((22, 24, 40, 64)), rng.choice((0, 1, 2, 9)),
                           rng.choice((0, 1, 2, 17)), rng.choice((0, 64, 128, 1100))))))
-            block.append('show')
+            block.append('slots 8')
         yield block
 
 
