@@ -129,10 +129,10 @@ def codec(rng):
         out += [words('write', *ident, flag, 3, top, len(packet), *flat), words('read', packet.hex())]
     out.append('# Faults of writing and reading, and damaged copies.')
     out += short(scripts.pdus_written, 10, 400) + short(scripts.pdus_read, 16, 400)
-    out.append('# The largest packet, one request more, and more than 4,096 pairs.')
+    out.append('# Packets of 4,095, 4,096 and 4,097 octets, and more than 4,096 pairs.')
     ident = [1, 1, 1, 7, 2]
-    for n in (510, 511):
-        requests = [(2 * s, 2 * s + 1) for s in range(n)]
+    for q, n in ((8, 509), (1, 510), (2, 510)):
+        ident[1], requests = q, [(2 * s, 2 * s + 1) for s in range(n)]
         packet = octets_of(ident, False, 0, 9999, requests)
         out += [words('write', *ident, 'normal', 0, 9999, len(packet), *[n for p in requests for n in p]),
                 words('read', packet.hex())]
@@ -143,7 +143,7 @@ def codec(rng):
 def reception(rng):
     out = list(RECEPTION_EXAMPLES)
     small = list(scripts.blocks(scripts.events_small, 'sample'))
-    for block in rng.sample(small, 10):
+    for block in rng.sample(small, 10) + list(scripts.records_edges(rng))[::2]:
         out += block
     for generator, blocks in ((scripts.events_history, 8), (scripts.records_broken, 14)):
         out += short(generator, blocks, 400)

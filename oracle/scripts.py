@@ -4,7 +4,8 @@
     scripts.py --list                    the generators and what each reaches
     scripts.py NAME [SEED [BLOCKS]]      prints blocks of that generator
 
-A generator yields blocks: lists of lines that begin with `new` and need nothing before them.
+A generator yields blocks: lists of lines that begin with `new` and need nothing before them (the first
+of `nonsense` begins with the console as it starts).
 Those of STORE hold store calls alone, which the Rust can judge; those of REST the others too.
 An exhaustive generator ends; the others go on for ever and are the same for the same seed.
 """
@@ -352,6 +353,38 @@ def records_broken(rng):
         yield block
 
 
+def records_small(rng):
+    """Every list of up to two pairs of the numbers 0 to 3, known, with progress 0 to 4: both events, the
+    sequence and remove: 8 for lists that overlap, touch, descend or hold empty pairs, 12, 19; and the
+    same lists waiting: 10 unless the list is the stated one."""
+    pool = list(itertools.product(range(4), repeat=2))
+    for n, mark in itertools.product(range(3), ('known', 'missing')):
+        for pairs in itertools.product(pool, repeat=n):
+            block = ['new wide 3']
+            for progress in range(5) if n < 2 else (3, 4):
+                block += [*set_list(pairs, progress, mark), 'nak 1 1 1 7 2 normal 24 0 16 384', 'remove 1 2',
+                          *set_list(pairs, progress, mark), 'data 2 1', 'show', *set_list(pairs, progress, mark),
+                          'metadata', 'show']
+            yield block
+
+
+def records_edges(rng):
+    """Events and the sequence at the limits of the widths: ends and progress of 2^32 - 1, 2^32 and
+    2^64 - 1, offsets and lengths whose sum is one above, both widths, known and waiting."""
+    for width, limit in (('narrow', NARROW), ('wide', TOP), ('wide', NARROW)):
+        for progress in (0, limit - 1, limit, min(TOP, limit + 1)):
+            for mark, pairs in (('known', []), ('known', [(0, 1)]), ('missing', [(0, progress)] if progress else []),
+                                ('known', [(limit - 2, limit - 1)]), ('known', [(limit - 2, min(TOP, limit + 1))])):
+                block = [words('new', width, 2)]
+                record = set_list(pairs, progress, mark)
+                for offset, length in ((0, limit), (limit, 1), (limit - 1, 1), (limit - 1, 2), (limit, 0), (1, limit),
+                                       (TOP, 1), (TOP, TOP), (TOP - 1, 1), (0, TOP)):
+                    block += [*record, words('data', offset, length), 'show']
+                for flag in FLAGS:
+                    block += [*record, words('nak 1 1 1 7 2', flag, 64, 0, 2, 128)]
+                yield block + ['metadata', 'show', 'metadata']
+
+
 def identity(rng, good=True):
     i, q = rng.randint(1, 8), rng.randint(1, 8)
     numbers = [rng.choice((0, 1, 256**length - 1, rng.randrange(256**length))) for length in (i, q, i)]
@@ -406,6 +439,19 @@ def pdus_lengths(rng):
         yield block
 
 
+def pdus_limits(rng):
+    """Packets of every total from 4,089 to 4,104 octets, written and read, both flags: pdu, nak, 14."""
+    for flag, q, extra in itertools.product(FLAGS, range(1, 9), (0, 1)):
+        large = flag == 'large'
+        f = 8 if large else 4
+        for i in (1, 5) if large else (1,):
+            ident = [i, q, 1, 7, 2]
+            requests = [(2 * s, 2 * s + 1) for s in range((4096 - (5 + 2 * i + q + 2 * f)) // (2 * f) + extra)]
+            packet = octets_of(ident, large, 0, 9999, requests)
+            flat = [n for pair in requests for n in pair]
+            yield ['new wide 0', words('write', *ident, flag, 0, 9999, len(packet), *flat), words('read', packet.hex())]
+
+
 def pdus_written(rng):
     """write with every fault alone and with others: 10, 13, 18, 3, 2, 7, 14, 6."""
     while True:
@@ -423,7 +469,7 @@ def pdus_written(rng):
             else:
                 requests = some_requests(rng, large, n)
             top = TOP if large else NARROW
-            start, end = sorted((rng.choice((0, 5, top)), rng.choice((0, 1000, top))))
+            start, end = sorted((rng.choice((0, 5, 1000, top)), rng.choice((0, 1000, top))))
             if rng.random() < 0.08:
                 start, end = end, start
             flat = [x for pair in requests for x in pair]
@@ -441,11 +487,13 @@ def pdus_written(rng):
 
 
 def pdus_read(rng):
-    """read of good packets and of damaged copies: a bit turned, octets cut or added, the length
+    """read of good packets, of one to eight octets, and of damaged copies: a bit turned, octets cut or added, the length
     field, directive code, scope, requests and flags changed, packets above 4,096 octets: nak, 16, 15,
     17, 18, 3, 2, 14."""
     while True:
         block = ['new wide 0', 'read']
+        for n in range(1, 9):
+            block.append(words('read', bytes([rng.choice((0x28, 0x29, 0x68)), 0, rng.choice((0, 1)), *[rng.choice((0, 0, 8, 0x80))] * 5][:n]).hex()))
         for _ in range(40):
             large = rng.random() < 0.5
             ident = identity(rng)
@@ -456,6 +504,8 @@ def pdus_read(rng):
                 n = rng.choice((fit, fit + 1, fit + 1, rng.randint(fit, 2000), 2040 if large else 4090))
             requests = some_requests(rng, large, n)
             start, end = sorted((rng.randint(0, 999), rng.randint(0, 2000)))
+            if rng.random() < 0.1:
+                start = end
             packet = octets_of(ident, large, start, end, requests)
             head = 4 + 2 * ident[0] + ident[1]
             f = 8 if large else 4
@@ -576,7 +626,7 @@ def nonsense(rng):
              'nak 1 1 1 7 2 normal 32 0 1 66001', 'nak 1 1 1 7 2 normal 32 0 1 66000', 'nak 1 1 1 7 2 x 32 0 1 32',
              'nak 1 1 1 7 2 normal 32 0 1 32 1', 'ok', 'error 1', 'shows', 'sho', 'add 1 2#', 'add 1 2 #', 'add 1,2',
              '\xe9', 'add \xb2 3', 'add 1\xa02', '\x00', 'show\x00', 'add 1 2\x0b', '\x0c']
-    yield ['new wide 3', *fixed, 'show']
+    yield ['show', 'data 5 1', 'show', 'slots 4', 'new wide 3', *fixed, 'show']
     # Line lengths of 65,535 and 65,536 octets, by spaces and by words; 8,200 and 8,201 requests.
     yield ['new wide 4096', 'add 1 2' + ' ' * 65528, 'add 3 4' + ' ' * 65529, 'show',
            'read ' + '0' * 65530, 'read ' + '0' * 65531, 'read ' + '00' * 32000,
@@ -610,8 +660,8 @@ def nonsense(rng):
 
 STORE = [store_remove_small, store_coalesce_small, store_add_within_small, store_octets_small, store_edges,
          store_lists, store_broken, store_history]
-REST = [events_small, events_history, events_wide_lists, records_broken, pdus_lengths, pdus_written, pdus_read,
-        sequences_runs, sequences_any, nonsense]
+REST = [events_small, records_small, records_edges, events_history, events_wide_lists, records_broken, pdus_lengths,
+        pdus_limits, pdus_written, pdus_read, sequences_runs, sequences_any, nonsense]
 
 # What a full run must meet at least once: by command, first words of answers and refusal numbers.
 REACH = {
