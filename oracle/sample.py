@@ -1,6 +1,6 @@
 """Makes the fixed sample in oracle/sample (run it by `compare --sample`).
 
-store.answers are the Rust's; codec, reception and sequence are the model's. The same sources give
+store.answers are the Rust's; codec, reception, sequence and console are the model's. The same sources give
 the same octets.
 """
 import itertools
@@ -34,6 +34,9 @@ STORE_EXAMPLES = [
     *on('wide', 2, W, 'remove 5 25'),
     *on('narrow', 2, [], 'remove 4294967296 4294967296', 'add 4294967296 4294967296', 'add 0 4294967295'),
     *on('wide', 4, [(30, 40), (10, 20), (20, 30), (12, 13)], 'coalesce'),
+    '# The narrow limit.',
+    *on('narrow', 2, [(5, NARROW)], words('remove', 6, NARROW), words('remove', 5, NARROW + 1), words('remove', NARROW + 1, 5),
+        words('add', NARROW, NARROW), words('add', NARROW + 1, 5), words('add', 5, NARROW + 1), words('add', 7, NARROW)),
 ]
 
 RECEPTION_EXAMPLES = [
@@ -136,7 +139,7 @@ def codec(rng):
         packet = octets_of(ident, False, 0, 9999, requests)
         out += [words('write', *ident, 'normal', 0, 9999, len(packet), *[n for p in requests for n in p]),
                 words('read', packet.hex())]
-    out.append(words('write', *ident, 'normal', 0, 9999, 16, *[1, 2] * 4097))
+    out += [words('write', *ident, 'normal', 0, 9999, 16, *[1, 2] * n) for n in (4096, 4097)]
     return out
 
 
@@ -163,11 +166,29 @@ def sequence(rng):
             return out
 
 
+def console(rng):
+    """Lines that are no command, and store calls that the port alone refuses."""
+    nonsense = scripts.blocks(scripts.nonsense, 'sample')
+    out = next(nonsense)
+    out += [line for line in next(nonsense) if not line.startswith('read ')]
+    for block in itertools.islice(nonsense, 12):
+        out += block
+    out.append('# Refusals 8 and 10 of the store, and slots past the count.')
+    for block in itertools.islice(scripts.blocks(scripts.store_broken, 'sample'), 20):
+        out += [line for line in block if line != 'show']
+    out.append('# Lists that are coalesced and lists that are not, known and waiting.')
+    for block in rng.sample(list(scripts.records_small(rng)), 60):
+        out += block
+    return out
+
+
 REACHED = {
     'store': scripts.RUST_REACH,
     'codec': {name: scripts.REACH[name] for name in ('write', 'read')},
     'reception': {name: scripts.REACH[name] for name in ('data', 'metadata')},
     'sequence': {'nak': scripts.REACH['nak'] - {8, 10, 12}},
+    'console': {**{name: {10} for name in ('add', 'remove', 'coalesce', 'within', 'octets')}, 'remove': {8, 10},
+                'nak': {8, 10, 12}, 'data': {8, 10, 12}, 'metadata': {8, 10, 12, 19}},
 }
 
 
@@ -175,7 +196,7 @@ def make(rust, run):
     """Writes the sample; says of each file whether it is as it was. False if something is amiss."""
     os.makedirs(FOLDER, exist_ok=True)
     good = True
-    for maker in (store, codec, reception, sequence):
+    for maker in (store, codec, reception, sequence, console):
         name = maker.__name__
         lines = maker(random.Random(f'sample {name}'))
         expected = dict(model.answers(scripts.text(lines)))
@@ -197,7 +218,7 @@ def make(rust, run):
         if maker is codec and answers[:2] != [f'pdu {EXAMPLE}', 'nak 1 1 1 7 2 normal 0 1000 0 0 100 200']:
             print('codec.answers: not the octets of document 01')
             good = False
-        met = {(lines[at - 1].split()[0], scripts.kind(a)) for at, answer in expected.items() for a in answer}
+        met = {((lines[at - 1].split() or [''])[0], scripts.kind(a)) for at, answer in expected.items() for a in answer}
         lost = sorted(f'{call} {what}' for call, all_ in REACHED[name].items() for what in all_ if (call, what) not in met)
         if lost:
             print(f'{name}.script does not reach: {", ".join(lost)}')
