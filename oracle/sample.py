@@ -169,7 +169,7 @@ def sequence(rng):
 def console(rng):
     """Lines that are no command, and store calls that the port alone refuses."""
     nonsense = scripts.blocks(scripts.nonsense, 'sample')
-    out = next(nonsense)
+    out = [''] + next(nonsense)
     out += [line for line in next(nonsense) if not line.startswith('read ')]
     for block in itertools.islice(nonsense, 12):
         out += block
@@ -179,7 +179,7 @@ def console(rng):
     out.append('# Lists that are coalesced and lists that are not, known and waiting.')
     for block in rng.sample(list(scripts.records_small(rng)), 60):
         out += block
-    return out
+    return out + ['', 'show']
 
 
 REACHED = {
@@ -199,17 +199,21 @@ def make(rust, run):
     for maker in (store, codec, reception, sequence, console):
         name = maker.__name__
         lines = maker(random.Random(f'sample {name}'))
-        expected = dict(model.answers(scripts.text(lines)))
+        script = scripts.text(lines)
+        if maker is console:
+            # The last line goes without its newline.
+            script = script[:-1]
+        expected = dict(model.answers(script))
         if maker is store:
             # The Rust's own answers; lines outside the domain leave the script.
-            said = run(rust, scripts.text(lines))
-            said = dict(zip(expected, said))
+            said = dict(zip(expected, run(rust, script)))
             lines = [line for at, line in enumerate(lines, 1) if said.get(at) != 'outside']
-            answers = run(rust, scripts.text(lines))
+            script = scripts.text(lines)
+            answers = run(rust, script)
             if 'outside' in answers:
                 print('store.script: a line is outside the domain')
                 good = False
-            expected = dict(model.answers(scripts.text(lines)))
+            expected = dict(model.answers(script))
             if [a for answer in expected.values() for a in answer] != answers:
                 print('store.answers: the Rust and the model part')
                 good = False
@@ -223,7 +227,7 @@ def make(rust, run):
         if lost:
             print(f'{name}.script does not reach: {", ".join(lost)}')
             good = False
-        for kind, text in (('script', scripts.text(lines)), ('answers', scripts.text(answers))):
+        for kind, text in (('script', script), ('answers', scripts.text(answers))):
             path = os.path.join(FOLDER, f'{name}.{kind}')
             before = open(path, 'rb').read() if os.path.exists(path) else None
             with open(path, 'wb') as file:
