@@ -462,7 +462,7 @@ def pdus_written(rng):
             f = 8 if large else 4
             head = 5 + 2 * ident[0] + ident[1] + 2 * f
             most = max(0, (4096 - head) // (2 * f))
-            n = rng.choice((0, 1, 2, 3, rng.randint(0, 40), most, most + 1)) if rng.random() < 0.6 else rng.randint(0, 3)
+            n = rng.choice((0, 1, 2, 3, rng.randint(0, 40), most, most + 1))
             if rng.random() < 0.02:
                 n = rng.choice((4096, 4097, 4100))
                 requests = [(s, s + 1) for s in range(n)]
@@ -493,7 +493,8 @@ def pdus_read(rng):
     while True:
         block = ['new wide 0', 'read']
         for n in range(1, 9):
-            block.append(words('read', bytes([rng.choice((0x28, 0x29, 0x68)), 0, rng.choice((0, 1)), *[rng.choice((0, 0, 8, 0x80))] * 5][:n]).hex()))
+            short = [rng.choice((0x28, 0x29, 0x68)), 0, rng.choice((0, 1)), *[rng.choice((0, 0, 8, 0x80))] * 5]
+            block.append(words('read', bytes(short[:n]).hex()))
         for _ in range(40):
             large = rng.random() < 0.5
             ident = identity(rng)
@@ -554,8 +555,8 @@ def sequences_runs(rng):
             pairs = [(0, progress)] if progress else []
         ident = identity(rng)
         fixed = 5 + 2 * ident[0] + ident[1] + 2 * f
-        largest = rng.choice((fixed + 2 * f, fixed + 2 * f + 1, fixed + 4 * f, fixed + 6 * f + rng.randint(0, 7), 512, 4096))
-        largest = min(4096, largest)
+        largest = fixed + rng.choice((2 * f, 2 * f + 1, 4 * f, 6 * f + rng.randint(0, 7)))
+        largest = rng.choice((largest, largest, 512, 4096))
         k = (largest - fixed) // (2 * f)
         entries = len(pairs) + missing
         block = [words('new', rng.choice(('wide', 'narrow')) if top == NARROW else 'wide', 4096)]
@@ -648,7 +649,8 @@ def nonsense(rng):
                 line += ' ' + rng.choice(('0', 'x', '1 1', '18446744073709551616'))
             elif fault == 3:
                 parts = line.split(' ')
-                parts[rng.randrange(len(parts))] = rng.choice(('0', '', 'known', '18446744073709551615', '18446744073709551616', 'wide'))
+                other = ('0', '', 'known', '18446744073709551615', '18446744073709551616', 'wide')
+                parts[rng.randrange(len(parts))] = rng.choice(other)
                 line = ' '.join(parts)
             elif fault == 4:
                 line = rng.choice(('', '   ', '# ' + line, '#', '##', ' ' * 300))

@@ -41,7 +41,13 @@ fn remove(list: &[(u64, u64)], a: u64, b: u64) -> String {
     format!("{answer}, list {}", pairs(store.iter()))
 }
 
-fn handler(list: &[(u64, u64)], capacity: usize, flag: LargeFileFlag, immediate: bool, max_packet_len: usize) -> Handler {
+fn handler(
+    list: &[(u64, u64)],
+    capacity: usize,
+    flag: LargeFileFlag,
+    immediate: bool,
+    max_packet_len: usize,
+) -> Handler {
     let remote = RemoteConfig {
         immediate_nak_mode: immediate,
         max_packet_len,
@@ -86,9 +92,8 @@ fn sequence(h: &mut Handler, call: impl FnOnce(&mut Handler) -> Result<u32, Dest
     }
     let mut all = Vec::new();
     for pdu in h.pdu_sender.sent.borrow().iter() {
-        let numbers: Vec<u64> = pdu[8..].chunks(f).map(|c| c.iter().fold(0, |n, &b| n << 8 | b as u64)).collect();
-        let requests = pairs(numbers[2..].chunks(2).map(|p| (p[0], p[1])));
-        all.push(format!("{}–{} {}", numbers[0], numbers[1], requests));
+        let scope = numbers(pdu, f);
+        all.push(format!("{}–{} {}", scope[0], scope[1], pairs(asked(pdu, f).into_iter())));
     }
     all.join("; ")
 }
@@ -177,4 +182,41 @@ fn main() {
     };
     say("single-scope", single(&[(100, 120)], 300, 1000));
     say("single-panics", single(&[(0, TWO32)], TWO32, TWO32));
+    say("requests", requests());
+}
+
+// No difference: in several PDUs the requests, and how they are cut into PDUs, are document 01's.
+fn requests() -> String {
+    let mut sequences = 0;
+    for (flag, f) in [(Normal, 4), (Large, 8)] {
+        for n in 1..=60u64 {
+            for k in 1..=n as usize {
+                for missing in [false, true] {
+                    let list: Vec<(u64, u64)> = (0..n).map(|i| (3 * i + 1, 3 * i + 2)).collect();
+                    let mut entries = if missing { vec![(0, 0)] } else { vec![] };
+                    entries.extend(&list);
+                    if entries.len() <= k {
+                        continue;
+                    }
+                    let mut h = handler(&list, 60, flag, false, 64);
+                    h.transaction_params.progress = 3 * n;
+                    h.multi(entries.len(), k, missing).unwrap();
+                    let sent = h.pdu_sender.sent.borrow();
+                    let cut: Vec<Vec<(u64, u64)>> = sent.iter().map(|pdu| asked(pdu, f)).collect();
+                    let want: Vec<Vec<(u64, u64)>> = entries.chunks(k).map(|c| c.to_vec()).collect();
+                    assert_eq!(cut, want, "k {k}, missing {missing}");
+                    sequences += 1;
+                }
+            }
+        }
+    }
+    format!("in {sequences} sequences of several PDUs the requests and their cut into PDUs are document 01's")
+}
+
+fn numbers(pdu: &[u8], f: usize) -> Vec<u64> {
+    pdu[8..].chunks(f).map(|c| c.iter().fold(0, |n, &b| n << 8 | b as u64)).collect()
+}
+
+fn asked(pdu: &[u8], f: usize) -> Vec<(u64, u64)> {
+    numbers(pdu, f)[2..].chunks(2).map(|p| (p[0], p[1])).collect()
 }

@@ -119,12 +119,12 @@ fn removes(bits: u64) -> u64 {
             for capacity in [pairs.len(), pairs.len() + 1] {
                 for a in 0..=bits + 1 {
                     for b in 0..=bits + 1 {
-                        let what = || format!("remove ({}, {}) on {pairs:?}, capacity {capacity}, narrow {is_narrow}", a + base, b + base);
+                        let (x, y) = (a + base, b + base);
+                        let what = || format!("remove ({x}, {y}) on {pairs:?}, capacity {capacity}, narrow {is_narrow}");
                         let want = || {
                             let (said, left) = remove(set, capacity, a, b, base);
                             (said, moved(&runs(left), base))
                         };
-                        let (x, y) = (a + base, b + base);
                         if is_narrow {
                             with_capacity!(capacity, N, agree(ask_remove(&mut narrow::<N>(&pairs), x, y), want(), what));
                             calls += 1;
