@@ -1,0 +1,482 @@
+#!/usr/bin/env python3
+"""A model of the console, written from document 01 and the console's language alone.
+
+    model.py [SCRIPT]      answers the script (or standard input) as the program must
+    model.py --self-test   holds the interval algebra against plain sets of offsets
+
+Numbers are Python's, lists are lists of pairs; nothing here follows the Rust or the port.
+"""
+import re
+import sys
+
+TOP = 2**64 - 1
+NARROW = 2**32 - 1
+MEMORY = 8200
+BUFFER = 66000
+LINE = 65535
+
+
+class Refused(Exception):
+    """A refusal of document 01's table: its number and what it also carries."""
+
+    def __init__(self, number, *carried):
+        self.words = [number, *carried]
+
+
+class Malformed(Exception):
+    """A line that is no command."""
+
+
+# Sets of offsets, as lists of pairs.
+
+def runs(pairs):
+    """The maximal runs of the union of the nonempty pairs, ascending; runs that touch are one.
+
+    Counts at each edge how many ranges open less how many close there: a run goes on while
+    any range is open."""
+    edges = {}
+    for s, e in pairs:
+        if s < e:
+            edges[s] = edges.get(s, 0) + 1
+            edges[e] = edges.get(e, 0) - 1
+    out, start, depth = [], None, 0
+    for at in sorted(edges):
+        before, depth = depth, depth + edges[at]
+        if before == 0:
+            start = at
+        if depth == 0:
+            out.append((start, at))
+    return out
+
+
+def minus(pairs, a, b):
+    """The pairs without the offsets from a up to b, each pair cut by itself."""
+    out = []
+    for s, e in pairs:
+        left, right = (s, min(e, a)), (max(s, b), e)
+        out += [part for part in (left, right) if part[0] < part[1]]
+    return out
+
+
+def shares(s, e, a, b):
+    """Have (s, e) and (a, b) an offset in common?"""
+    return max(s, a) < min(e, b)
+
+
+def is_coalesced(pairs):
+    return (all(s < e for s, e in pairs)
+            and all(pairs[i][1] < pairs[i + 1][0] for i in range(len(pairs) - 1)))
+
+
+# The NAK PDU.
+
+def field(large):
+    return 8 if large else 4
+
+
+def check_identity(identity):
+    i, q, source, number, destination = identity
+    for length in (i, q):
+        if not 1 <= length <= 8:
+            raise Refused(13)
+    for value, length in ((source, i), (number, q), (destination, i)):
+        if value >= 256**length:
+            raise Refused(13)
+
+
+def check_requests(requests):
+    for place, (s, e) in enumerate(requests):
+        if s > e:
+            raise Refused(3, s, e)
+        if s == e and not (place == 0 and s == 0):
+            raise Refused(2)
+
+
+def header_length(i, q):
+    return 4 + 2 * i + q
+
+
+def packet(identity, large, start, end, requests):
+    """The octets of one PDU."""
+    i, q, source, number, destination = identity
+    f = field(large)
+    data = bytes([8]) + b''.join(n.to_bytes(f, 'big') for pair in [(start, end), *requests] for n in pair)
+    octet0 = int('001' + '0' + '1' + '0' + '0' + '01'[large], 2)
+    octet3 = int('0' + f'{i - 1:03b}' + '0' + f'{q - 1:03b}', 2)
+    return (bytes([octet0]) + len(data).to_bytes(2, 'big') + bytes([octet3])
+            + source.to_bytes(i, 'big') + number.to_bytes(q, 'big') + destination.to_bytes(i, 'big') + data)
+
+
+def write(identity, large, start, end, length, flat):
+    """One PDU into a buffer of that length, its requests a flat list."""
+    if len(flat) % 2 or len(flat) > 2 * 4096:
+        raise Refused(10)
+    requests = list(zip(flat[::2], flat[1::2]))
+    check_identity(identity)
+    if start > end:
+        raise Refused(18)
+    check_requests(requests)
+    if not large and max([start, end, *flat]) > NARROW:
+        raise Refused(7)
+    total = header_length(*identity[:2]) + 1 + 2 * field(large) * (1 + len(requests))
+    if total > 4096:
+        raise Refused(14)
+    if length != total:
+        raise Refused(6, total, length)
+    return packet(identity, large, start, end, requests)
+
+
+def read(octets):
+    """What a packet says: identity, large, start, end, requests."""
+    if len(octets) < 4:
+        raise Refused(16)
+    first, third = f'{octets[0]:08b}', f'{octets[3]:08b}'
+    if first[:7] != '001' + '0' + '1' + '0' + '0' or third[0] != '0' or third[4] != '0':
+        raise Refused(15)
+    large = first[7] == '1'
+    i, q = int(third[1:4], 2) + 1, int(third[5:], 2) + 1
+    head, body = octets[:header_length(i, q)], octets[header_length(i, q):]
+    stated = int.from_bytes(octets[1:3], 'big')
+    if len(octets) != header_length(i, q) + stated or stated == 0:
+        raise Refused(16)
+    if body[0] != 8:
+        raise Refused(17)
+    f = field(large)
+    if len(body) < 1 + 2 * f or (len(body) - 1) % (2 * f):
+        raise Refused(16)
+    numbers = [int.from_bytes(body[at:at + f], 'big') for at in range(1, len(body), f)]
+    start, end, flat = numbers[0], numbers[1], numbers[2:]
+    requests = list(zip(flat[::2], flat[1::2]))
+    if start > end:
+        raise Refused(18)
+    check_requests(requests)
+    if len(octets) > 4096:
+        raise Refused(14)
+    source, number, destination = head[4:4 + i], head[4 + i:4 + i + q], head[4 + i + q:]
+    identity = [i, q] + [int.from_bytes(part, 'big') for part in (source, number, destination)]
+    return identity, large, start, end, requests
+
+
+# Words of a line.
+
+IS_NUMBER = re.compile('[0-9]{1,20}').fullmatch
+IS_OCTETS = re.compile('([0-9a-f]{2})*').fullmatch
+
+
+def number(word, most=TOP):
+    if not IS_NUMBER(word) or int(word) > most:
+        raise Malformed
+    return int(word)
+
+
+def choice(word, no, yes):
+    if word not in (no, yes):
+        raise Malformed
+    return word == yes
+
+
+class Console:
+    def __init__(self):
+        self.begin(False, 4096)
+
+    def begin(self, narrow, ranges):
+        self.memory = [0] * MEMORY
+        self.length, self.count, self.narrow = 2 * ranges, 0, narrow
+        self.progress, self.missing = 0, True
+
+    # What every call checks first, and what an accepted change leaves.
+
+    def pairs(self):
+        """Check 10 of the store's calls; the counted pairs."""
+        if self.length % 2 or self.length > 2 * 4096 or self.count > self.length // 2:
+            raise Refused(10)
+        flat = self.memory[:2 * self.count]
+        if self.narrow and flat and max(flat) > NARROW:
+            raise Refused(10)
+        return list(zip(flat[::2], flat[1::2]))
+
+    def record(self):
+        """Checks 10, 8 and 12 of the events and the sequence; the counted pairs."""
+        pairs = self.pairs()
+        if self.narrow and self.progress > NARROW:
+            raise Refused(10)
+        if self.missing and pairs != ([(0, self.progress)] if self.progress else []):
+            raise Refused(10)
+        if not is_coalesced(pairs):
+            raise Refused(8)
+        if pairs and pairs[-1][1] > self.progress:
+            raise Refused(12)
+        return pairs
+
+    def capacity(self):
+        return self.length // 2
+
+    def put(self, pairs):
+        """The list becomes these pairs; slots that the list gives up hold 0."""
+        before, self.count = self.count, len(pairs)
+        flat = [n for pair in pairs for n in pair]
+        self.memory[:len(flat)] = flat
+        for at in range(2 * self.count, 2 * before):
+            self.memory[at] = 0
+
+    # The calls.
+
+    def add(self, s, e):
+        pairs = self.pairs()
+        if s == e:
+            raise Refused(2)
+        if s > e:
+            raise Refused(3, s, e)
+        if self.narrow and max(s, e) > NARROW:
+            raise Refused(4)
+        if self.count == self.capacity():
+            raise Refused(1)
+        self.put(pairs + [(s, e)])
+        return f'added {self.count}'
+
+    def remove(self, a, b):
+        pairs = self.pairs()
+        if self.narrow and max(a, b) > NARROW:
+            raise Refused(4)
+        if a == b:
+            raise Refused(2)
+        if a > b:
+            raise Refused(3, a, b)
+        if not is_coalesced(pairs):
+            raise Refused(8)
+        if not any(shares(s, e, a, b) for s, e in pairs):
+            return f'removed false {self.count}'
+        if not any(s <= a and b <= e for s, e in pairs):
+            raise Refused(5, a, b)
+        left = minus(pairs, a, b)
+        if len(left) > self.capacity():
+            raise Refused(1)
+        self.put(left)
+        return f'removed true {self.count}'
+
+    def coalesce(self):
+        self.put(runs(self.pairs()))
+        return f'coalesced {self.count}'
+
+    def within(self, a, b):
+        return 'yes' if any(s <= a and b <= e for s, e in self.pairs()) else 'no'
+
+    def octets(self, large, length):
+        pairs, f = self.pairs(), field(large)
+        if length != len(pairs) * 2 * f:
+            raise Refused(6, len(pairs) * 2 * f, length)
+        flat = [n for pair in pairs for n in pair]
+        if not large and flat and max(flat) > NARROW:
+            raise Refused(7)
+        return 'octets ' + b''.join(n.to_bytes(f, 'big') for n in flat).hex()
+
+    def data(self, offset, length):
+        pairs = self.record()
+        end = offset + length
+        if length == 0:
+            raise Refused(2)
+        if end > TOP:
+            raise Refused(9)
+        if self.narrow and end > NARROW:
+            raise Refused(4)
+        progress = max(self.progress, end)
+        if self.missing:
+            left = [(0, progress)]
+        else:
+            left = runs(minus(pairs, offset, end) + [(self.progress, offset)])
+        if len(left) > self.capacity():
+            raise Refused(1)
+        self.put(left)
+        self.progress = progress
+        return f'{"noticed" if self.missing else "kept"} {self.count} {self.progress}'
+
+    def metadata(self):
+        self.record()
+        if not self.missing:
+            raise Refused(19)
+        self.missing = False
+        return 'known'
+
+    def nak(self, identity, large, largest, cursor, budget, length):
+        pairs = self.record()
+        check_identity(identity)
+        f = field(large)
+        fixed = header_length(*identity[:2]) + 1 + 2 * f
+        if largest > 4096 or largest < fixed + 2 * f:
+            raise Refused(14)
+        if not large and max([self.progress] + [n for pair in pairs for n in pair]) > NARROW:
+            raise Refused(7)
+        entries = ([(0, 0)] if self.missing else []) + pairs
+        if cursor > len(entries):
+            raise Refused(11)
+        if budget > 16:
+            raise Refused(20)
+        if length < budget * largest:
+            raise Refused(6, budget * largest, length)
+        k = (largest - fixed) // (2 * f)
+        sent = []
+        while len(sent) < budget and cursor < len(entries):
+            taken = entries[cursor:cursor + k]
+            start = 0 if cursor == 0 else entries[cursor - 1][1]
+            cursor += len(taken)
+            end = self.progress if cursor == len(entries) else taken[-1][1]
+            sent.append(packet(identity, large, start, end, taken))
+        return [f'pdu {pdu.hex()}' for pdu in sent] + [f'sent {len(sent)} {sum(map(len, sent))} {cursor}']
+
+    # The console's words.
+
+    def show(self):
+        mark = f'{"narrow" if self.narrow else "wide"} {self.length} {self.count} {self.progress}'
+        mark += ' missing' if self.missing else ' known'
+        return ' '.join([mark, *map(str, self.memory[:2 * min(self.count, MEMORY // 2)])])
+
+    def command(self, words):
+        """The answer to a line's words, a line or a list of lines."""
+        name, rest = words[0], words[1:]
+
+        def need(n):
+            if len(rest) != n:
+                raise Malformed
+
+        if name == 'poke':
+            numbers = [number(word) for word in rest]
+            if not numbers or numbers[0] + len(numbers) - 1 > MEMORY:
+                raise Malformed
+            at, values = numbers[0], numbers[1:]
+            self.memory[at:at + len(values)] = values
+            return 'ok'
+        if name == 'load':
+            need(3)
+            progress, missing, count = number(rest[0]), choice(rest[1], 'known', 'missing'), number(rest[2])
+            self.progress, self.missing, self.count = progress, missing, count
+            return 'ok'
+        if name == 'lend':
+            need(1)
+            self.length = number(rest[0], MEMORY)
+            return 'ok'
+        if name == 'new':
+            need(2)
+            narrow, ranges = choice(rest[0], 'wide', 'narrow'), number(rest[1], 4096)
+            self.begin(narrow, ranges)
+            return 'ok'
+        if name == 'show':
+            need(0)
+            return self.show()
+        if name == 'slots':
+            need(1)
+            return ' '.join(['slots', *map(str, self.memory[:number(rest[0], MEMORY)])])
+        if name in ('add', 'remove', 'within', 'data'):
+            need(2)
+            return getattr(self, name)(number(rest[0]), number(rest[1]))
+        if name in ('coalesce', 'metadata'):
+            need(0)
+            return getattr(self, name)()
+        if name == 'octets':
+            need(2)
+            return self.octets(choice(rest[0], 'normal', 'large'), number(rest[1], BUFFER))
+        if name == 'write':
+            if not 9 <= len(rest) <= 9 + MEMORY:
+                raise Malformed
+            identity, large = [number(word) for word in rest[:5]], choice(rest[5], 'normal', 'large')
+            start, end, length = number(rest[6]), number(rest[7]), number(rest[8], BUFFER)
+            flat = [number(word) for word in rest[9:]]
+            return 'pdu ' + write(identity, large, start, end, length, flat).hex()
+        if name == 'read':
+            if len(rest) > 1 or rest and not IS_OCTETS(rest[0]):
+                raise Malformed
+            identity, large, start, end, requests = read(bytes.fromhex(rest[0] if rest else ''))
+            numbers = [start, end] + [n for pair in requests for n in pair]
+            return ' '.join(['nak', *map(str, identity), 'large' if large else 'normal', *map(str, numbers)])
+        if name == 'nak':
+            need(10)
+            identity, large = [number(word) for word in rest[:5]], choice(rest[5], 'normal', 'large')
+            largest, cursor, budget = [number(word) for word in rest[6:9]]
+            return self.nak(identity, large, largest, cursor, budget, number(rest[9], BUFFER))
+        raise Malformed
+
+    def line(self, at, text):
+        """The answers to line `at`, a list of lines; None if it is passed over."""
+        if len(text) > LINE:
+            return [f'error {at}']
+        if text.startswith('#'):
+            return None
+        words = [word for word in text.split(' ') if word]
+        if not words:
+            return None
+        try:
+            answer = self.command(words)
+        except Refused as refusal:
+            return ['refused ' + ' '.join(map(str, refusal.words))]
+        except Malformed:
+            return [f'error {at}']
+        return answer if isinstance(answer, list) else [answer]
+
+
+def lines(script):
+    """The lines of a script, as text of one character an octet."""
+    pieces = script.decode('latin-1').split('\n')
+    return pieces[:-1] if pieces[-1] == '' else pieces
+
+
+def answers(script):
+    """(line number, answers) for each line of the script that is answered."""
+    console = Console()
+    for at, text in enumerate(lines(script), 1):
+        answer = console.line(at, text)
+        if answer is not None:
+            yield at, answer
+
+
+# Sets of offsets, one by one, against the algebra above.
+
+def offsets(pairs):
+    return {x for s, e in pairs for x in range(s, e)}
+
+
+def spans(members):
+    """The maximal runs of a finite set."""
+    return [(x, min(y for y in range(x, x + len(members) + 1) if y not in members))
+            for x in sorted(members) if x - 1 not in members]
+
+
+def self_test():
+    import itertools
+    small = [(s, e) for s in range(5) for e in range(5)]
+    done = 0
+    for n in range(4):
+        for pairs in itertools.product(small, repeat=n):
+            assert runs(pairs) == spans(offsets(pairs)), pairs
+            assert is_coalesced(list(pairs)) == (list(pairs) == spans(offsets(pairs))), pairs
+            done += 1
+    for bits in range(2**7):
+        members = {x for x in range(7) if bits >> x & 1}
+        pairs = spans(members)
+        for a, b in itertools.combinations(range(9), 2):
+            asked = set(range(a, b))
+            assert minus(pairs, a, b) == spans(members - asked), (pairs, a, b)
+            for progress in range(pairs[-1][1] if pairs else 0, 9):
+                console = Console()
+                console.begin(False, 4096)
+                console.missing, console.progress = False, progress
+                console.put(pairs)
+                console.data(a, b - a)
+                kept = (members | set(range(progress, a))) - asked
+                assert console.pairs() == spans(kept) and console.progress == max(progress, b)
+                done += 1
+    print(f'self-test: {done} cases agree with sets of offsets')
+
+
+def main():
+    if sys.argv[1:] == ['--self-test']:
+        return self_test()
+    if len(sys.argv) > 1:
+        with open(sys.argv[1], 'rb') as file:
+            script = file.read()
+    else:
+        script = sys.stdin.buffer.read()
+    for _, answer in answers(script):
+        print('\n'.join(answer))
+
+
+if __name__ == '__main__':
+    main()

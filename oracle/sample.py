@@ -1,0 +1,237 @@
+"""Makes the fixed sample in oracle/sample (run it by `compare --sample`).
+
+store.answers are the Rust's; codec, reception, sequence and console are the model's. The same sources give
+the same octets.
+"""
+import itertools
+import os
+import random
+
+import model
+import scripts
+from scripts import FLAGS, NARROW, WIDTHS, octets_of, set_list, spans, words
+
+FOLDER = os.path.join(os.path.dirname(os.path.abspath(__file__)), 'sample')
+
+# Document 01's example packet, as document 01 prints it.
+EXAMPLE = ('28 00 19 00 01 07 02 08 00 00 00 00 00 00 03 E8 00 00 00 00 00 00 00 00 00 00 00 64 00 00 00 C8'
+           .replace(' ', '').lower())
+
+W = [(10, 20), (30, 40)]
+
+
+def on(width, capacity, pairs, *calls):
+    return [words('new', width, capacity), *set_list(pairs), *calls, 'show']
+
+
+STORE_EXAMPLES = [
+    '# Document 01, traced examples, in its order.',
+    *on('wide', 2, W, 'remove 10 20'),
+    *on('wide', 2, W, 'remove 10 15'),
+    *on('wide', 2, W, 'remove 12 18'),
+    *on('wide', 3, W, 'remove 12 18'),
+    *on('wide', 2, W, 'remove 20 30'),
+    *on('wide', 2, W, 'remove 5 25'),
+    *on('narrow', 2, [], 'remove 4294967296 4294967296', 'add 4294967296 4294967296', 'add 0 4294967295'),
+    *on('wide', 4, [(30, 40), (10, 20), (20, 30), (12, 13)], 'coalesce'),
+    '# The narrow limit.',
+    *on('narrow', 2, [(5, NARROW)], words('remove', 6, NARROW), words('remove', 5, NARROW + 1), words('remove', NARROW + 1, 5),
+        words('add', NARROW, NARROW), words('add', NARROW + 1, 5), words('add', 5, NARROW + 1), words('add', 7, NARROW)),
+]
+
+RECEPTION_EXAMPLES = [
+    '# Document 01, traced examples, in its order.',
+    'new wide 2', 'metadata', 'data 0 100', 'data 200 100', 'data 120 30', 'show', 'data 90 120', 'show',
+    'new wide 1', 'metadata', 'data 0 100', 'data 200 100', 'data 120 30', 'show', 'data 100 50', 'show',
+    'new wide 2', 'data 50 10', 'show', 'metadata', 'data 70 10', 'show',
+    '# The console\'s own example.',
+    'new wide 64', 'metadata', 'data 0 100', 'data 200 100', 'data 120 30', 'show',
+    'nak 1 1 1 7 2 normal 32 0 16 512',
+    '# Choices that document 01 leaves, as docs/DECISIONS.md takes them.',
+    'new wide 0', 'data 5 5', 'data 0 0', 'metadata', 'data 0 5', 'data 6 1', 'show',
+    'new wide 2', 'metadata', 'data 18446744073709551615 0', 'data 18446744073709551614 1', 'show',
+    'data 18446744073709551615 1', 'data 0 18446744073709551615', 'show',
+    'new narrow 2', 'metadata', 'data 4294967295 1', 'data 4294967294 1', 'show', 'data 18446744073709551615 1', 'metadata',
+    'new wide 4', *set_list([(5, 6), (1, 2)], 9, 'known'), 'metadata', 'data 0 0', *set_list([(1, 2), (5, 6)], 5, 'known'),
+    'metadata', 'data 0 0', *set_list([(1, 2), (5, 6)], 6, 'known'), 'metadata', 'data 0 0', 'show',
+    'new wide 4', *set_list([(0, 5)], 6), 'metadata', 'data 1 1', *set_list([(0, 6)], 6), 'data 1 1', 'metadata', 'show',
+]
+
+SEQUENCE_EXAMPLES = [
+    '# Document 01, traced examples, in its order.',
+    'new wide 8', *set_list([(0, 1), (2, 3), (4, 5), (6, 7), (8, 9)], 12, 'known'),
+    'nak 1 1 1 7 2 normal 32 0 16 512', 'nak 1 1 1 7 2 normal 23 0 16 512',
+    '# The example of the section on the sequence, k = 1.',
+    'new wide 8', *set_list([(0, 1), (2, 3), (4, 5)], 10, 'known'), 'nak 1 1 1 7 2 normal 24 0 16 384',
+    'nak 1 1 1 7 2 normal 31 0 16 496',
+    '# Metadata missing with k = 1; no entries; a cursor at the end; budget 0; a buffer one short.',
+    'new wide 8', *set_list([(0, 60)], 60), 'nak 1 1 1 7 2 normal 24 0 16 384', 'nak 1 1 1 7 2 normal 24 2 16 384',
+    'nak 1 1 1 7 2 normal 24 3 16 384', 'nak 1 1 1 7 2 normal 24 1 0 0', 'nak 1 1 1 7 2 normal 24 0 2 47',
+    'nak 1 1 1 7 2 normal 24 0 17 0', 'new wide 8', 'nak 1 1 1 7 2 normal 24 0 1 24', 'metadata',
+    'nak 1 1 1 7 2 normal 24 0 1 24', 'nak 1 1 1 7 2 normal 24 1 1 24',
+]
+
+
+def store(rng):
+    """Store calls that reach every answer the Rust can give."""
+    out = list(STORE_EXAMPLES)
+    removes = [(w, room, bits, a, b) for w in WIDTHS for room in (0, 1) for bits in range(64)
+               for a, b in itertools.product(range(8), repeat=2) if a <= b or a == b + 1]
+    for width, room, bits, a, b in rng.sample(removes, 380):
+        pairs = spans(bits)
+        out += [words('new', width, len(pairs) + room), *set_list(pairs), words('remove', a, b), 'show']
+    pool = list(itertools.product(range(5), repeat=2))
+    for _ in range(150):
+        pairs = [rng.choice(pool) for _ in range(rng.randint(1, 5))]
+        out += [words('new', rng.choice(WIDTHS), 5), *set_list(pairs), 'coalesce', 'show']
+    for _ in range(80):
+        pairs = [rng.choice(pool) for _ in range(rng.randint(0, 3))]
+        (a, b), (c, d) = rng.choice(pool), rng.choice(pool)
+        out += [words('new', rng.choice(WIDTHS), len(pairs) + rng.choice((0, 1))), *set_list(pairs),
+                words('within', a, b), words('add', a, b), words('add', c, d), 'show']
+    octets = list(scripts.store_octets_small(rng))
+    for block in rng.sample(octets, 50):
+        out += block
+    for generator, blocks in ((scripts.store_edges, 5), (scripts.store_history, 2)):
+        for block in itertools.islice(scripts.blocks(generator, 'sample'), blocks):
+            out += block
+    wanted = [(100, 300), (100, 300), (900, 1100)]
+    for block in scripts.blocks(scripts.store_lists, 'sample'):
+        count = next(int(line.split()[3]) for line in block if line.startswith('load '))
+        if wanted and wanted[0][0] <= count <= wanted[0][1] and sum(map(len, block)) < 40_000 and 'coalesce' in block:
+            out += block
+            wanted.pop(0)
+        if not wanted:
+            return out
+
+
+def short(generator, blocks, most):
+    """Lines of some blocks that are not too long, each block whole otherwise."""
+    return [line for block in itertools.islice(scripts.blocks(generator, 'sample'), blocks)
+            for line in block if len(line) <= most]
+
+
+def codec(rng):
+    """PDUs written and read: the example, every identifier length, damaged copies, the limits."""
+    out = ['# Document 01\'s example packet, then the same with every bit turned in its turn.',
+           'write 1 1 1 7 2 normal 0 1000 32 0 0 100 200', words('read', EXAMPLE)]
+    for bit in range(8 * len(EXAMPLE) // 2):
+        damaged = bytearray.fromhex(EXAMPLE)
+        damaged[bit // 8] ^= 0x80 >> bit % 8
+        out.append(words('read', damaged.hex()))
+    out.append('# Every shorter part of it, and one octet more.')
+    out += [words('read', EXAMPLE[:2 * n]).strip() for n in range(len(EXAMPLE) // 2)] + [words('read', EXAMPLE + '00')]
+    out.append('# Every identifier length, both flags.')
+    for i, q, flag in itertools.product(range(1, 9), range(1, 9), FLAGS):
+        ident = [i, q, *[rng.choice((0, 256**n - 1, rng.randrange(256**n), rng.randrange(256**n))) for n in (i, q, i)]]
+        large = flag == 'large'
+        top = 2**64 - 1 if large else NARROW
+        requests = rng.choice(([], [(0, 0)], [(0, 0), (100, 200)], [(5, top)], [(0, 1), (top - 1, top)]))
+        packet = octets_of(ident, large, 3, top, requests)
+        flat = [n for pair in requests for n in pair]
+        out += [words('write', *ident, flag, 3, top, len(packet), *flat), words('read', packet.hex())]
+    out.append('# Faults of writing and reading, and damaged copies.')
+    out += short(scripts.pdus_written, 10, 400) + short(scripts.pdus_read, 16, 400)
+    out.append('# Packets of 4,095, 4,096 and 4,097 octets, and more than 4,096 pairs.')
+    ident = [1, 1, 1, 7, 2]
+    for q, n in ((8, 509), (1, 510), (2, 510)):
+        ident[1], requests = q, [(2 * s, 2 * s + 1) for s in range(n)]
+        packet = octets_of(ident, False, 0, 9999, requests)
+        out += [words('write', *ident, 'normal', 0, 9999, len(packet), *[n for p in requests for n in p]),
+                words('read', packet.hex())]
+    out += [words('write', *ident, 'normal', 0, 9999, 16, *[1, 2] * n) for n in (4096, 4097)]
+    return out
+
+
+def reception(rng):
+    out = list(RECEPTION_EXAMPLES)
+    small = list(scripts.blocks(scripts.events_small, 'sample'))
+    for block in rng.sample(small, 10) + list(scripts.records_edges(rng))[::2]:
+        out += block
+    for generator, blocks in ((scripts.events_history, 8), (scripts.records_broken, 14)):
+        out += short(generator, blocks, 400)
+    return out
+
+
+def sequence(rng):
+    out = list(SEQUENCE_EXAMPLES)
+    for block in itertools.islice(scripts.blocks(scripts.sequences_any, 'sample'), 8):
+        out += block
+    size = 0
+    for block in scripts.blocks(scripts.sequences_runs, 'sample'):
+        if sum(map(len, block)) < 4_000:
+            out += block
+            size += sum(len(a) for _, answer in model.answers(scripts.text(block)) for a in answer)
+        if size > 90_000:
+            return out
+
+
+def console(rng):
+    """Lines that are no command, and store calls that the port alone refuses."""
+    nonsense = scripts.blocks(scripts.nonsense, 'sample')
+    out = [''] + next(nonsense)
+    out += [line for line in next(nonsense) if not line.startswith('read ')]
+    for block in itertools.islice(nonsense, 12):
+        out += block
+    out.append('# Refusals 8 and 10 of the store, and slots past the count.')
+    for block in itertools.islice(scripts.blocks(scripts.store_broken, 'sample'), 20):
+        out += [line for line in block if line != 'show']
+    out.append('# Lists that are coalesced and lists that are not, known and waiting.')
+    for block in rng.sample(list(scripts.records_small(rng)), 60):
+        out += block
+    return out + ['', 'show']
+
+
+REACHED = {
+    'store': scripts.RUST_REACH,
+    'codec': {name: scripts.REACH[name] for name in ('write', 'read')},
+    'reception': {name: scripts.REACH[name] for name in ('data', 'metadata')},
+    'sequence': {'nak': scripts.REACH['nak'] - {8, 10, 12}},
+    'console': {**{name: {10} for name in ('add', 'remove', 'coalesce', 'within', 'octets')}, 'remove': {8, 10},
+                'nak': {8, 10, 12}, 'data': {8, 10, 12}, 'metadata': {8, 10, 12, 19}},
+}
+
+
+def make(rust, run):
+    """Writes the sample; says of each file whether it is as it was. False if something is amiss."""
+    os.makedirs(FOLDER, exist_ok=True)
+    good = True
+    for maker in (store, codec, reception, sequence, console):
+        name = maker.__name__
+        lines = maker(random.Random(f'sample {name}'))
+        script = scripts.text(lines)
+        if maker is console:
+            # The last line goes without its newline.
+            script = script[:-1]
+        expected = dict(model.answers(script))
+        if maker is store:
+            # The Rust's own answers; lines outside the domain leave the script.
+            said = dict(zip(expected, run(rust, script)))
+            lines = [line for at, line in enumerate(lines, 1) if said.get(at) != 'outside']
+            script = scripts.text(lines)
+            answers = run(rust, script)
+            if 'outside' in answers:
+                print('store.script: a line is outside the domain')
+                good = False
+            expected = dict(model.answers(script))
+            if [a for answer in expected.values() for a in answer] != answers:
+                print('store.answers: the Rust and the model part')
+                good = False
+        else:
+            answers = [a for answer in expected.values() for a in answer]
+        if maker is codec and answers[:2] != [f'pdu {EXAMPLE}', 'nak 1 1 1 7 2 normal 0 1000 0 0 100 200']:
+            print('codec.answers: not the octets of document 01')
+            good = False
+        met = {((lines[at - 1].split() or [''])[0], scripts.kind(a)) for at, answer in expected.items() for a in answer}
+        lost = sorted(f'{call} {what}' for call, all_ in REACHED[name].items() for what in all_ if (call, what) not in met)
+        if lost:
+            print(f'{name}.script does not reach: {", ".join(lost)}')
+            good = False
+        for kind, text in (('script', script), ('answers', scripts.text(answers))):
+            path = os.path.join(FOLDER, f'{name}.{kind}')
+            before = open(path, 'rb').read() if os.path.exists(path) else None
+            with open(path, 'wb') as file:
+                file.write(text)
+            state = 'as it was' if before == text else 'changed' if before is not None else 'new'
+            print(f'{name}.{kind}: {text.count(bytes([10]))} lines, {len(text)} octets, {state}')
+    return good

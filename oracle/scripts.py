@@ -1,0 +1,721 @@
+#!/usr/bin/env python3
+"""Generators of console scripts.
+
+    scripts.py --list                    the generators and what each reaches
+    scripts.py NAME [SEED [BLOCKS]]      prints blocks of that generator
+
+A generator yields blocks: lists of lines that begin with `new` and need nothing before them (the first
+of `nonsense` begins with the console as it starts).
+Those of STORE hold store calls alone, which the Rust can judge; those of REST the others too.
+An exhaustive generator ends; the others go on for ever and are the same for the same seed.
+"""
+import itertools
+import random
+import sys
+
+TOP = 2**64 - 1
+NARROW = 2**32 - 1
+FLAGS = ('normal', 'large')
+WIDTHS = ('wide', 'narrow')
+
+# Capacities for which the Rust's fixed lists are built (store/src/main.rs).
+FIXED = [*range(21), 24, 31, 32, 33, 64, 100, 128, 256, 512, 1000, 1024, 2048, 4095, 4096]
+EDGE = [0, 1, 2, 2**31 - 1, 2**31, NARROW - 2, NARROW - 1, NARROW, NARROW + 1, NARROW + 2, 2**33,
+        2**63 - 1, 2**63, TOP - 2, TOP - 1, TOP]
+
+
+def words(*parts):
+    return ' '.join(map(str, parts))
+
+
+def set_list(pairs, progress=0, mark='missing'):
+    """Lines that make these pairs the counted list."""
+    flat = [n for pair in pairs for n in pair]
+    pokes = [words('poke', at, *flat[at:at + 3000]) for at in range(0, len(flat), 3000)]
+    return pokes + [words('load', progress, mark, len(pairs))]
+
+
+def spans(bits):
+    """The runs of ones of a number, as pairs: every coalesced list of small numbers."""
+    out, at = [], 0
+    while bits >> at:
+        if bits >> at & 1:
+            start = at
+            while bits >> at & 1:
+                at += 1
+            out.append((start, at))
+        at += 1
+    return out
+
+
+def ascending(rng, n, low, high):
+    """A coalesced list of n ranges of numbers from low to high."""
+    if high - low + 1 < 2 * n:
+        n = (high - low + 1) // 2
+    ends = sorted(rng.sample(range(low, high + 1), 2 * n)) if high - low < 2**62 else \
+        sorted({rng.randint(low, high) for _ in range(2 * n)})
+    return list(zip(ends[:len(ends) // 2 * 2:2], ends[1::2]))
+
+
+# The store.
+
+def store_remove_small(rng):
+    """remove, every pair from 0 to 9 on every coalesced list of the offsets 0 to 7, full and with
+    room for one more, both widths: true by each of the four ways, false, 1, 2, 3, 5."""
+    for width, room in itertools.product(WIDTHS, (0, 1)):
+        for bits in range(2**8):
+            pairs = spans(bits)
+            block = [words('new', width, len(pairs) + room)]
+            for a, b in itertools.product(range(10), repeat=2):
+                block += [*set_list(pairs), words('remove', a, b), 'show']
+            yield block
+
+
+def store_coalesce_small(rng):
+    """coalesce, every list of up to three pairs of the numbers 0 to 3, empty and reversed ones
+    too, both widths."""
+    pool = list(itertools.product(range(4), repeat=2))
+    for width in WIDTHS:
+        for n in range(4):
+            lists = list(itertools.product(pool, repeat=n))
+            for at in range(0, len(lists), 500):
+                block = [words('new', width, 3)]
+                for pairs in lists[at:at + 500]:
+                    block += [*set_list(pairs), 'coalesce', 'show']
+                yield block
+
+
+def store_add_within_small(rng):
+    """add and within, every pair from 0 to 4 on every list of up to two pairs of the numbers 0 to 3,
+    full and with room, both widths: added, 1, 2, 3, yes, no."""
+    pool = list(itertools.product(range(4), repeat=2))
+    for width, n, room in itertools.product(WIDTHS, range(3), (0, 1)):
+        for pairs in itertools.product(pool, repeat=n):
+            block = [words('new', width, n + room)]
+            for a, b in itertools.product(range(5), repeat=2):
+                block += [*set_list(pairs), words('within', a, b), words('add', a, b), 'show']
+            yield block
+
+
+def store_octets_small(rng):
+    """octets, every list of up to two pairs of numbers at the field's edges, both flags, buffers of
+    the right length, one short, one long and none: octets, 6, 7."""
+    pool = list(itertools.product((0, 258, NARROW, NARROW + 1, TOP), repeat=2))
+    for n in range(3):
+        for pairs in itertools.product(pool, repeat=n):
+            block = [words('new', 'wide', 3), *set_list(pairs)]
+            for flag, per in (('normal', 8), ('large', 16)):
+                for length in sorted({max(0, n * per + d) for d in (-1, 0, 1)} | {0}):
+                    block.append(words('octets', flag, length))
+            yield block
+    for pairs in itertools.product([(0, NARROW), (NARROW, 7)], repeat=2):
+        yield [words('new', 'narrow', 2), *set_list(pairs), 'octets normal 16', 'octets large 32', 'octets large 16']
+
+
+def store_edges(rng):
+    """Every store call with numbers at and around 0, 2^31, 2^32, 2^63 and 2^64 - 1, on lists of such
+    numbers, coalesced and not, both widths: 4 before and after 2 and 3, and 10 and 8."""
+    while True:
+        width = rng.choice(WIDTHS)
+        most = NARROW if width == 'narrow' and rng.random() < 0.95 else TOP
+        pool = [n for n in EDGE if n <= most]
+        block = [words('new', width, rng.choice((2, 3, 4, 8)))]
+        for _ in range(30):
+            if rng.random() < 0.6:
+                ends = sorted(rng.sample(pool, 2 * rng.randint(0, min(4, len(pool) // 2))))
+                pairs = list(zip(ends[::2], ends[1::2]))
+            else:
+                pairs = [(rng.choice(pool), rng.choice(pool)) for _ in range(rng.randint(0, 4))]
+            block += set_list(pairs)
+            for _ in range(rng.randint(1, 4)):
+                block += [one_call(rng, rng.choice(EDGE), rng.choice(EDGE), len(pairs)), 'show']
+        yield block
+
+
+def one_call(rng, a, b, count):
+    kind = rng.randrange(12)
+    if kind < 3:
+        return words('add', a, b)
+    if kind < 7:
+        return words('remove', a, b)
+    if kind < 8:
+        return 'coalesce'
+    if kind < 10:
+        return words('within', a, b)
+    flag = rng.choice(FLAGS)
+    length = count * (8 if flag == 'normal' else 16) + rng.choice((0, 0, 0, 0, 8, -8, 1))
+    return words('octets', flag, max(0, length))
+
+
+def store_history(rng):
+    """Long histories of all five calls on one store that is never set afresh: capacities from 0,
+    offsets of a narrow space so that ranges meet, near 0, 2^32 and 2^64, both widths."""
+    while True:
+        width = rng.choice(WIDTHS)
+        capacity = rng.choice(FIXED[:rng.choice((6, 21, 27))])
+        space = rng.choice((8, 20, 60, 400))
+        base = rng.choice((0, 0, NARROW - space // 2, NARROW - space, TOP - space))
+        block = [words('new', width, capacity)]
+        count = 0
+        for _ in range(300):
+            a, b = base + rng.randint(0, space), base + rng.randint(0, space)
+            if rng.random() < 0.9:
+                a, b = sorted((a, b))
+            a, b = min(a, TOP), min(b, TOP)
+            kind = rng.random()
+            if kind < 0.35:
+                block.append(words('add', a, b))
+                count += 1
+            elif kind < 0.55:
+                block += ['coalesce', 'show']
+            elif kind < 0.85:
+                b = rng.choice((b, b, min(TOP, a + rng.randint(0, 3))))
+                if rng.random() < 0.7:
+                    block.append('coalesce')
+                block += [words('remove', a, b), 'show']
+            elif kind < 0.95:
+                block.append(words('within', a, b))
+            else:
+                flag = rng.choice(FLAGS)
+                block.append(words('octets', flag, rng.randint(0, 6) * (8 if flag == 'normal' else 16)))
+        block.append('show')
+        yield block
+
+
+def store_lists(rng):
+    """Lists of up to 4,096 ranges, ascending, reversed, in random order, overlapping, with empty and
+    reversed pairs: coalesce, then removes inside, at the edges of, across and between ranges, adds
+    up to a full store, octets; both widths, full and not."""
+    while True:
+        width = rng.choice(WIDTHS)
+        n = min(4096, int(2 ** rng.uniform(0, 12.01)))
+        capacity = rng.choice([c for c in FIXED if c >= n])
+        most = NARROW if width == 'narrow' else TOP
+        low = rng.choice((0, 0, max(0, NARROW - 8 * n), most - 8 * n))
+        high = min(most, low + rng.choice((2 * n, 4 * n, 8 * n, 2**20)))
+        block = [words('new', width, capacity)]
+        kind = rng.choice(('ascending', 'reversed', 'shuffled', 'overlapping', 'any'))
+        pairs = ascending(rng, n, low, high)
+        if kind == 'reversed':
+            pairs.reverse()
+        elif kind == 'shuffled':
+            rng.shuffle(pairs)
+        elif kind == 'overlapping':
+            starts = [rng.randint(low, high) for _ in range(n)]
+            pairs = [(s, min(high, s + rng.randint(1, 9))) for s in starts]
+        elif kind == 'any':
+            pairs = [(rng.randint(low, high), rng.randint(low, high)) for _ in range(n)]
+        block += set_list(pairs)
+        for flag, per in (('normal', 8), ('large', 16)):
+            if rng.random() < 0.3:
+                block.append(words('octets', flag, len(pairs) * per))
+        if kind != 'ascending' or rng.random() < 0.3:
+            block += ['coalesce', 'show']
+        for _ in range(20):
+            s, e = rng.choice(pairs) if pairs else (low, high)
+            inner = sorted((rng.randint(min(s, e), max(s, e)), rng.randint(min(s, e), max(s, e))))
+            a, b = rng.choice([(s, e), (s, inner[1]), (inner[0], e), inner, (max(0, s - 1), e), (e, e + 1),
+                               (max(0, s - 1), s), (rng.randint(low, high), rng.randint(low, high))])
+            a, b = min(a, TOP), min(b, TOP)
+            block += [words('within', a, b), words('remove', a, b)]
+        block.append('show')
+        for _ in range(rng.randint(0, 4)):
+            block.append(words('add', rng.randint(low, high), rng.randint(low, high)))
+        block.append('show')
+        if rng.random() < 0.5:
+            block += ['coalesce', 'show']
+        yield block
+
+
+def store_broken(rng):
+    """Stores that are none, for every store call: an odd length, more than 4,096 pairs, a count
+    above the capacity, wide numbers in a narrow store (10); uncoalesced lists for remove (8, after
+    4, 2 and 3); slots past the count before and after a change."""
+    while True:
+        width = rng.choice(WIDTHS)
+        capacity = rng.choice((0, 1, 2, 3, 5, 4096))
+        block = [words('new', width, capacity)]
+        for _ in range(12):
+            pairs = [(rng.choice(EDGE[:9]), rng.choice(EDGE[:9])) for _ in range(rng.randint(0, 4))]
+            block += set_list(pairs)
+            if rng.random() < 0.5:
+                block.append(words('lend', rng.choice((0, 1, 2, 3, 4, 7, 8, 10, 8191, 8192, 8193, 8194, 8200))))
+            if rng.random() < 0.3:
+                block.append(words('load', 0, 'known', rng.choice((0, 1, 2, 3, 4096, 4097, 4100, 4101, 2**63, TOP))))
+            for _ in range(4):
+                block.append(one_call(rng, rng.choice(EDGE[:10]), rng.choice(EDGE[:10]), len(pairs)))
+            block += ['slots 12']
+            if rng.random() < 0.1:
+                block += ['show']
+        yield block
+
+
+# Events, PDUs, sequences, nonsense.
+
+def events_small(rng):
+    """The data event, every offset from 0 to 7 and length from 0 to 4, known, on every coalesced list
+    of the offsets 0 to 4 and every progress from its end to 6, full and with room for one more; and
+    waiting at every progress to 6, capacities 0 and 1: kept, noticed, 1, 2."""
+    asked = list(itertools.product(range(8), range(5)))
+    for bits in range(2**5):
+        pairs = spans(bits)
+        for progress, room in itertools.product(range(bits.bit_length(), 7), (0, 1)):
+            block = [words('new', 'wide', len(pairs) + room)]
+            for offset, length in asked:
+                block += [*set_list(pairs, progress, 'known'), words('data', offset, length), 'show']
+            yield block
+    for progress, capacity in itertools.product(range(7), (0, 1)):
+        block = [words('new', 'wide', capacity)]
+        for offset, length in asked:
+            block += [*set_list([(0, progress)] if progress else [], progress), words('data', offset, length), 'show']
+        yield block
+
+
+def events_history(rng):
+    """Long histories of events from a fresh record or from progress near 2^32 or 2^64, capacities 0
+    to 4,096, both widths, metadata first, late or never, data in order, in gaps, repeated, across
+    several ranges; slots past the count; sequences in between: noticed, kept, known, 1, 2, 4, 9, 19."""
+    while True:
+        width = rng.choice(WIDTHS)
+        capacity = rng.choice((0, 1, 1, 2, 2, 3, 4, 8, 30, 400, 4096))
+        block = [words('new', width, capacity)]
+        step = rng.choice((1, 3, 10, 1000))
+        base = rng.choice((0, 0, 0, NARROW - 40 * step, TOP - 40 * step))
+        late = rng.choice((0, 0, 0, 3, 20, 10**9))
+        if base and late == 0 and rng.random() < 0.8:
+            block.append(words('load', base, 'known', 0))
+        front = base
+        for at in range(rng.choice((20, 150, 400))):
+            if at == late or rng.random() < 0.01:
+                block.append('metadata')
+            kind = rng.random()
+            if kind < 0.45:
+                offset = front + rng.choice((0, 0, 1, 2, 5)) * rng.randint(1, step)
+            else:
+                offset = rng.randint(base, max(base, front))
+            offset = min(offset, TOP)
+            length = rng.choice((0,) + (1, 2, 5, 5, 20) * 6) * rng.randint(1, step)
+            if rng.random() < 0.02:
+                length = rng.choice((TOP - offset, TOP - offset + 1, TOP, max(0, NARROW - offset), NARROW + 1))
+            length = min(length, TOP)
+            front = max(front, min(offset + length, base + 60 * step, TOP))
+            block.append(words('data', offset, length))
+            if rng.random() < 0.3:
+                block.append('show')
+            if rng.random() < 0.1:
+                block.append(words('slots', rng.choice((4, 10, 40))))
+            if rng.random() < 0.05:
+                block.append(words('nak 1 1 1 7 2', rng.choice(FLAGS), rng.choice((40, 64, 200)), 0, 16, 3200))
+        yield block
+
+
+def events_wide_lists(rng):
+    """Data events on lists of hundreds and thousands of ranges: gaps up to a full list, splits, data
+    across many ranges."""
+    while True:
+        n = rng.choice((100, 600, 2000, 4095, 4096))
+        pairs = ascending(rng, n, 0, 8 * n)
+        progress = pairs[-1][1] + rng.randint(0, 3)
+        block = [words('new', 'wide', min(4096, n + rng.choice((0, 0, 1))))] + set_list(pairs, progress, 'known')
+        for _ in range(12):
+            offset = rng.randint(0, progress + 5)
+            length = rng.choice((1, 2, 3, 50, 2 * n))
+            progress = max(progress, offset + length)
+            block.append(words('data', offset, length))
+        yield block + ['show', words('slots', min(8200, 2 * n + 2))]
+
+
+def records_broken(rng):
+    """Records that are none, for both events and the sequence: 10 of each kind, among them a waiting
+    list that is not the stated one and narrow progress, 8, 12, 19 after them."""
+    while True:
+        width = rng.choice(WIDTHS)
+        block = [words('new', width, rng.choice((0, 1, 2, 3, 4)))]
+        for _ in range(12):
+            pool = rng.choice((EDGE[:5], EDGE[4:9], EDGE, range(8)))
+            pairs = [(rng.choice(pool), rng.choice(pool)) for _ in range(rng.choice((0, 1, 1, 2, 3)))]
+            if rng.random() < 0.6:
+                flat = sorted({n for pair in pairs for n in pair})
+                pairs = list(zip(flat[:len(flat) // 2 * 2:2], flat[1::2]))
+            last = pairs[-1][1] if pairs else 0
+            progress = rng.choice((last, last, min(TOP, last + 1), max(0, last - 1), rng.choice(pool)))
+            block += set_list(pairs, progress, rng.choice(('known', 'known', 'missing')))
+            if rng.random() < 0.1:
+                block.append(words('lend', rng.choice((1, 3, 4, 6, 8192, 8193, 8194))))
+            if rng.random() < 0.1:
+                block.append(words('load', progress, 'known', rng.choice((3, 4, 5, 4097, TOP))))
+            for _ in range(3):
+                block.append(rng.choice((
+                    'metadata', words('data', rng.choice(pool), rng.choice((0, 1, 2, 3, TOP))),
+                    words('nak 1 1 1 7 2', rng.choice(FLAGS), rng.choice((22, 24, 40, 64)), rng.choice((0, 1, 2, 9)),
+                          rng.choice((0, 1, 2, 17)), rng.choice((0, 64, 128, 1100))))))
+            block.append('slots 8')
+        yield block
+
+
+def records_small(rng):
+    """Every list of up to two pairs of the numbers 0 to 3, known, with progress 0 to 4: both events, the
+    sequence and remove: 8 for lists that overlap, touch, descend or hold empty pairs, 12, 19; and the
+    same lists waiting: 10 unless the list is the stated one."""
+    pool = list(itertools.product(range(4), repeat=2))
+    for n, mark in itertools.product(range(3), ('known', 'missing')):
+        for pairs in itertools.product(pool, repeat=n):
+            block = ['new wide 3']
+            for progress in range(5) if n < 2 else (3, 4):
+                block += [*set_list(pairs, progress, mark), 'nak 1 1 1 7 2 normal 24 0 16 384', 'remove 1 2',
+                          *set_list(pairs, progress, mark), 'data 2 1', 'show', *set_list(pairs, progress, mark),
+                          'metadata', 'show']
+            yield block
+
+
+def records_edges(rng):
+    """Events and the sequence at the limits of the widths: ends and progress of 2^32 - 1, 2^32 and
+    2^64 - 1, offsets and lengths whose sum is one above, both widths, known and waiting."""
+    for width, limit in (('narrow', NARROW), ('wide', TOP), ('wide', NARROW)):
+        for progress in (0, limit - 1, limit, min(TOP, limit + 1)):
+            for mark, pairs in (('known', []), ('known', [(0, 1)]), ('missing', [(0, progress)] if progress else []),
+                                ('known', [(limit - 2, limit - 1)]), ('known', [(limit - 2, min(TOP, limit + 1))])):
+                block = [words('new', width, 2)]
+                record = set_list(pairs, progress, mark)
+                for offset, length in ((0, limit), (limit, 1), (limit - 1, 1), (limit - 1, 2), (limit, 0), (1, limit),
+                                       (TOP, 1), (TOP, TOP), (TOP - 1, 1), (0, TOP)):
+                    block += [*record, words('data', offset, length), 'show']
+                for flag in FLAGS:
+                    block += [*record, words('nak 1 1 1 7 2', flag, 64, 0, 2, 128)]
+                yield block + ['metadata', 'show', 'metadata']
+
+
+def identity(rng, good=True):
+    i, q = rng.randint(1, 8), rng.randint(1, 8)
+    numbers = [rng.choice((0, 1, 256**length - 1, rng.randrange(256**length))) for length in (i, q, i)]
+    if not good:
+        fault = rng.randrange(6)
+        if fault < 2:
+            i, q = [(rng.choice((0, 9, 256, TOP)), q), (i, rng.choice((0, 9, 10, TOP)))][fault]
+        elif fault < 5 and (i, q, i)[fault - 2] < 8:
+            numbers[fault - 2] = 256**(i, q, i)[fault - 2] + rng.choice((0, 0, 1))
+        numbers = [min(n, TOP) for n in numbers]
+    return [i, q, *numbers]
+
+
+def octets_of(ident, large, start, end, requests, code=8):
+    """A packet's octets, good or not, so that readers can be fed without a writer."""
+    i, q, source, number, destination = ident
+    f = 8 if large else 4
+    out = bytearray([0x28 | large, 0, 0, (i - 1) << 4 | (q - 1)])
+    out += source.to_bytes(i, 'big') + number.to_bytes(q, 'big') + destination.to_bytes(i, 'big')
+    head = len(out)
+    out.append(code)
+    for n in [start, end] + [n for pair in requests for n in pair]:
+        out += n.to_bytes(f, 'big')
+    out[1:3] = (len(out) - head & 0xffff).to_bytes(2, 'big')
+    return out
+
+
+def some_requests(rng, large, n):
+    most = TOP if large else NARROW
+    out = []
+    for _ in range(n):
+        s = rng.choice((0, rng.randint(0, most), rng.randint(0, 999), most - 1))
+        out.append((s, min(most, s + rng.choice((1, 2, 100, 2**20)))))
+    if n and rng.random() < 0.4:
+        out[0] = (0, 0)
+    return out
+
+
+def pdus_lengths(rng):
+    """One packet written and read for each of the 64 pairs of identifier lengths, both flags, with and
+    without a metadata request, and each buffer one short and one long: pdu, nak, 6."""
+    for i, q, flag in itertools.product(range(1, 9), range(1, 9), FLAGS):
+        large = flag == 'large'
+        block = ['new wide 0']
+        for requests in ([], [(0, 0)], [(0, 0), (100, 200)], [(5, 2**31)]):
+            ident = [i, q, *[rng.randrange(256**length) for length in (i, q, i)]]
+            packet = octets_of(ident, large, 3, 1000, requests)
+            flat = [n for pair in requests for n in pair]
+            for length in (len(packet) - 1, len(packet) + 1, len(packet)):
+                block.append(words('write', *ident, flag, 3, 1000, length, *flat))
+            block.append(words('read', packet.hex()))
+        yield block
+
+
+def pdus_limits(rng):
+    """Packets of every total from 4,089 to 4,104 octets, written and read, both flags: pdu, nak, 14."""
+    for flag, q, extra in itertools.product(FLAGS, range(1, 9), (0, 1)):
+        large = flag == 'large'
+        f = 8 if large else 4
+        for i in (1, 5) if large else (1,):
+            ident = [i, q, 1, 7, 2]
+            requests = [(2 * s, 2 * s + 1) for s in range((4096 - (5 + 2 * i + q + 2 * f)) // (2 * f) + extra)]
+            packet = octets_of(ident, large, 0, 9999, requests)
+            flat = [n for pair in requests for n in pair]
+            yield ['new wide 0', words('write', *ident, flag, 0, 9999, len(packet), *flat), words('read', packet.hex())]
+
+
+def pdus_written(rng):
+    """write with every fault alone and with others: 10, 13, 18, 3, 2, 7, 14, 6."""
+    while True:
+        block = ['new wide 0']
+        for _ in range(40):
+            large = rng.random() < 0.5
+            ident = identity(rng, rng.random() < 0.9)
+            f = 8 if large else 4
+            head = 5 + 2 * ident[0] + ident[1] + 2 * f
+            most = max(0, (4096 - head) // (2 * f))
+            n = rng.choice((0, 1, 2, 3, rng.randint(0, 40), most, most + 1))
+            if rng.random() < 0.02:
+                n = rng.choice((4096, 4097, 4100))
+                requests = [(s, s + 1) for s in range(n)]
+            else:
+                requests = some_requests(rng, large, n)
+            top = TOP if large else NARROW
+            start, end = sorted((rng.choice((0, 5, 1000, top)), rng.choice((0, 1000, top))))
+            if rng.random() < 0.08:
+                start, end = end, start
+            flat = [x for pair in requests for x in pair]
+            if flat and rng.random() < 0.15:
+                at = rng.randrange(len(requests))
+                fault = rng.choice(((7, 7), (9, 4), (0, 0), (NARROW + 1, NARROW + 5), (2, 1)))
+                flat[2 * at:2 * at + 2] = fault
+            if rng.random() < 0.04:
+                end = rng.choice((NARROW + 1, TOP))
+            if flat and rng.random() < 0.04:
+                flat.pop()
+            length = max(0, min(66000, head + len(flat) // 2 * 2 * f + rng.choice((0,) * 12 + (-1, 1, 8, -8, 500))))
+            block.append(words('write', *ident, FLAGS[large], start, end, length, *flat))
+        yield block
+
+
+def pdus_read(rng):
+    """read of good packets, of one to eight octets, and of damaged copies: a bit turned, octets cut or added, the length
+    field, directive code, scope, requests and flags changed, packets above 4,096 octets: nak, 16, 15,
+    17, 18, 3, 2, 14."""
+    while True:
+        block = ['new wide 0', 'read']
+        for n in range(1, 9):
+            short = [rng.choice((0x28, 0x29, 0x68)), 0, rng.choice((0, 1)), *[rng.choice((0, 0, 8, 0x80))] * 5]
+            block.append(words('read', bytes(short[:n]).hex()))
+        for _ in range(40):
+            large = rng.random() < 0.5
+            ident = identity(rng)
+            n = rng.choice((0, 1, 2, 3, rng.randint(0, 30)))
+            if rng.random() < 0.05:
+                f = 8 if large else 4
+                fit = (4096 - (5 + 2 * ident[0] + ident[1] + 2 * f)) // (2 * f)
+                n = rng.choice((fit, fit + 1, fit + 1, rng.randint(fit, 2000), 2040 if large else 4090))
+            requests = some_requests(rng, large, n)
+            start, end = sorted((rng.randint(0, 999), rng.randint(0, 2000)))
+            if rng.random() < 0.1:
+                start = end
+            packet = octets_of(ident, large, start, end, requests)
+            head = 4 + 2 * ident[0] + ident[1]
+            f = 8 if large else 4
+            fault = rng.randrange(14)
+            if fault == 0:
+                packet[rng.randrange(len(packet))] ^= 1 << rng.randrange(8)
+            elif fault == 1:
+                packet[rng.choice((0, 0, 3))] ^= 1 << rng.randrange(8)
+            elif fault == 2:
+                packet = packet[:rng.randint(0, len(packet))]
+            elif fault == 3:
+                packet += bytes(rng.randrange(256) for _ in range(rng.choice((1, 4, 8, 16))))
+            elif fault == 4:
+                cut = rng.randint(1, min(20, len(packet) - head))
+                packet = packet[:len(packet) - cut]
+                packet[1:3] = (len(packet) - head).to_bytes(2, 'big')
+            elif fault == 5:
+                packet[head] = rng.randrange(256)
+            elif fault == 6:
+                packet[1:3] = rng.randrange(65536).to_bytes(2, 'big')
+            elif fault == 7:
+                packet = octets_of(ident, large, end + 1, end, requests)
+            elif fault == 8 and requests:
+                at = rng.randrange(len(requests))
+                requests[at] = rng.choice(((7, 7), (9, 4), (0, 0), (2**32 - 1, 0)))
+                packet = octets_of(ident, large, start, end, requests)
+            elif fault == 9:
+                packet = packet[:4] + bytes(rng.randrange(256) for _ in range(rng.randint(0, 30)))
+            block.append(words('read', packet.hex()))
+        yield block
+
+
+def sequences_runs(rng):
+    """Whole sequences from cursor 0 in calls of budgets 0 to 16, both flags, every identifier length,
+    metadata known and missing, P from room for one request to 4,096: pdu, sent."""
+    while True:
+        large = rng.random() < 0.5
+        flag, f = FLAGS[large], 8 if large else 4
+        missing = rng.random() < 0.15
+        top = TOP if large else NARROW
+        n = rng.choice((0, 1, 2, 3, 7, 20, 90, 300, 4096))
+        low = rng.choice((0, 0, 0, top - 20 * n - 20))
+        pairs = ascending(rng, n, low, low + rng.choice((2, 4, 15)) * n + 2)
+        progress = min(top, (pairs[-1][1] if pairs else 0) + rng.choice((0, 0, 1, 1000)))
+        if missing:
+            pairs = [(0, progress)] if progress else []
+        ident = identity(rng)
+        fixed = 5 + 2 * ident[0] + ident[1] + 2 * f
+        largest = fixed + rng.choice((2 * f, 2 * f + 1, 4 * f, 6 * f + rng.randint(0, 7)))
+        largest = rng.choice((largest, largest, 512, 4096))
+        k = (largest - fixed) // (2 * f)
+        entries = len(pairs) + missing
+        block = [words('new', rng.choice(('wide', 'narrow')) if top == NARROW else 'wide', 4096)]
+        block += set_list(pairs, progress, 'missing' if missing else 'known')
+        cursor = 0
+        for _ in range(400):
+            budget = rng.choice((0, 1, 2, 3, 16, 16, rng.randint(0, 16)))
+            block.append(words('nak', *ident, flag, largest, cursor, budget, budget * largest + rng.choice((0, 0, 5))))
+            cursor = min(entries, cursor + budget * k)
+            if cursor == entries and rng.random() < 0.7:
+                break
+        yield block
+
+
+def sequences_any(rng):
+    """Single calls of the sequence with any cursor, on and off the grid and past the end, budgets 0 to
+    17, P from too small to above 4,096, short buffers, bad identities, numbers too large for the
+    flag: sent, 7, 11, 13, 14, 20, 6."""
+    while True:
+        block = ['new wide 64']
+        for _ in range(15):
+            large = rng.random() < 0.5
+            flag, f = FLAGS[large], 8 if large else 4
+            missing = rng.random() < 0.3
+            low = rng.choice((0, 0, 0, 0, NARROW - 8, 2**40))
+            pairs = ascending(rng, rng.randint(0, 9), low, low + 40)
+            progress = (pairs[-1][1] if pairs else low) + rng.choice((0, 1, 9))
+            if missing:
+                pairs = [(0, progress)] if progress else []
+            entries = len(pairs) + missing
+            block += set_list(pairs, progress, 'missing' if missing else 'known')
+            for _ in range(4):
+                ident = identity(rng, rng.random() < 0.92)
+                fixed = 5 + 2 * ident[0] + ident[1] + 2 * f
+                largest = fixed + 2 * f * rng.randint(1, 4) + rng.choice((0, 0, 1, 2 * f - 1))
+                if rng.random() < 0.15:
+                    largest = rng.choice((0, 1, fixed, fixed + 2 * f - 1, 4096, 4097, 2**32, TOP))
+                cursor = rng.randint(0, entries)
+                if rng.random() < 0.07:
+                    cursor = rng.choice((entries + 1, TOP))
+                budget = rng.randint(0, 17) if rng.random() < 0.9 else rng.choice((17, 2**32, TOP))
+                need = min(66000, min(budget, 16) * largest)
+                length = rng.choice((need, need, need, min(66000, need + 9), max(0, need - 1), 0))
+                block.append(words('nak', *ident, flag, min(largest, TOP), cursor, budget, length))
+        yield block
+
+
+def nonsense(rng):
+    """Lines that are no command: unknown words, too few and too many words, numbers of 21 digits and
+    above 2^64 - 1, signs, tabs, capitals, odd and upper-case octets, values past each limit, lines of
+    65,535 and 65,536 octets; and lines that are passed over; each with commands in between that show
+    that nothing changed."""
+    good = ['new wide 3', 'lend 6', 'load 7 known 1', 'poke 0 1 2', 'show', 'slots 4', 'add 1 2', 'remove 1 2',
+            'coalesce', 'within 1 2', 'octets normal 8', 'data 0 1', 'metadata',
+            'write 1 1 1 7 2 normal 0 1000 24 100 200', 'read 2800', 'nak 1 1 1 7 2 normal 32 0 1 32']
+    fixed = ['bogus', 'ADD 1 2', 'add', 'add 1', 'add 1 2 3', 'add -1 2', 'add +1 2', 'add 0x1 2', 'add 1. 2',
+             'add 18446744073709551615 18446744073709551615', 'add 18446744073709551616 1',
+             'add 99999999999999999999 1', 'add 000000000000000000001 2', 'add 00000000000000000001 2',
+             'add\t1 2', '\tadd 1 2', 'add 1 2\r', 'add 1 2\t', '  add   1    2  ', 'new', 'new wide', 'new tall 3',
+             'new wide 4097', 'new narrow 4096', 'new wide 3 3', 'lend 8201', 'lend 8200', 'lend x', 'lend',
+             'load 1 maybe 2', 'load 1 known', 'load x known 1', 'load 1 known x', 'poke', 'poke 8199 1 2',
+             'poke 8199 1', 'poke 18446744073709551615 1', 'poke 0 1 x', 'show me', 'slots', 'slots 8201', 'slots x',
+             'coalesce now', 'metadata 1', 'within 1', 'octets', 'octets normal', 'octets small 8',
+             'octets large 66001', 'octets large 66000', 'octets normal 0', 'octets Normal 0', 'data 1', 'data 1 2 3',
+             'write', 'write 1 1 1 7 2 normal 0 1000', 'write 1 1 1 7 2 normal 0 1000 66001',
+             'write 1 1 1 7 2 normal 0 1000 66000', 'write 1 1 1 7 2 odd 0 1000 16', 'write 1 1 1 7 2 normal 0 1000 16 1 x',
+             'read 2', 'read 2A', 'read 28 00', 'read zz', 'read 0x28', 'read', 'nak', 'nak 1 1 1 7 2 normal 32 0 1',
+             'nak 1 1 1 7 2 normal 32 0 1 66001', 'nak 1 1 1 7 2 normal 32 0 1 66000', 'nak 1 1 1 7 2 x 32 0 1 32',
+             'nak 1 1 1 7 2 normal 32 0 1 32 1', 'ok', 'error 1', 'shows', 'sho', 'add 1 2#', 'add 1 2 #', 'add 1,2',
+             '\xe9', 'add \xb2 3', 'add 1\xa02', '\x00', 'show\x00', 'add 1 2\x0b', '\x0c']
+    yield ['show', 'data 5 1', 'show', 'slots 4', 'new wide 3', *fixed, 'show']
+    # Line lengths of 65,535 and 65,536 octets, by spaces and by words; 8,200 and 8,201 requests.
+    yield ['new wide 4096', 'add 1 2' + ' ' * 65528, 'add 3 4' + ' ' * 65529, 'show',
+           'read ' + '0' * 65530, 'read ' + '0' * 65531, 'read ' + '00' * 32000,
+           'poke 0' + ' 1' * 8200, 'poke 1' + ' 2' * 8200, 'slots 3', 'poke 0' + ' 3' * 8201, 'slots 3',
+           'load 0 known 4100', 'show', 'load 0 known 4101', 'show', 'load 0 known 18446744073709551615', 'show',
+           'write 1 1 1 7 2 normal 0 1000 16' + ' 1 2' * 4100, 'write 1 1 1 7 2 normal 0 1000 16' + ' 1 2' * 4100 + ' 1',
+           'write 1 1 1 7 2 normal 0 1000 16' + ' 1 2' * 4096, 'write 1 1 1 7 2 normal 0 1000 16' + ' 1 2' * 4096 + ' 1']
+    while True:
+        block = ['new wide 3', 'load 5 known 0', 'data 7 2']
+        for _ in range(30):
+            line = rng.choice(good)
+            fault = rng.randrange(8)
+            if fault == 0:
+                at = rng.randrange(len(line))
+                line = line[:at] + chr(rng.choice((9, 13, 35, 45, 48, 57, 65, 97, 103, 0, 127, 200))) + line[at + 1:]
+            elif fault == 1:
+                line = ' '.join(line.split(' ')[:-1]) or 'x'
+            elif fault == 2:
+                line += ' ' + rng.choice(('0', 'x', '1 1', '18446744073709551616'))
+            elif fault == 3:
+                parts = line.split(' ')
+                other = ('0', '', 'known', '18446744073709551615', '18446744073709551616', 'wide')
+                parts[rng.randrange(len(parts))] = rng.choice(other)
+                line = ' '.join(parts)
+            elif fault == 4:
+                line = rng.choice(('', '   ', '# ' + line, '#', '##', ' ' * 300))
+            elif fault == 5:
+                line = ' ' * rng.randint(0, 3) + line.replace(' ', ' ' * rng.randint(1, 3)) + ' ' * rng.randint(0, 3)
+            block += [line, 'show'] if rng.random() < 0.3 else [line]
+        yield block
+
+
+STORE = [store_remove_small, store_coalesce_small, store_add_within_small, store_octets_small, store_edges,
+         store_lists, store_broken, store_history]
+REST = [events_small, records_small, records_edges, events_history, events_wide_lists, records_broken, pdus_lengths,
+        pdus_limits, pdus_written, pdus_read, sequences_runs, sequences_any, nonsense]
+
+# What a full run must meet at least once: by command, first words of answers and refusal numbers.
+REACH = {
+    'add': {'added', 1, 2, 3, 4, 10},
+    'remove': {'removed true', 'removed false', 1, 2, 3, 4, 5, 8, 10},
+    'coalesce': {'coalesced', 10},
+    'within': {'yes', 'no', 10},
+    'octets': {'octets', 6, 7, 10},
+    'data': {'noticed', 'kept', 1, 2, 4, 8, 9, 10, 12},
+    'metadata': {'known', 8, 10, 12, 19},
+    'write': {'pdu', 2, 3, 6, 7, 10, 13, 14, 18},
+    'read': {'nak', 2, 3, 14, 15, 16, 17, 18},
+    'nak': {'pdu', 'sent', 6, 7, 8, 10, 11, 12, 13, 14, 20},
+}
+RUST_REACH = {
+    'add': {'added', 1, 2, 3, 4},
+    'remove': {'removed true', 'removed false', 1, 2, 3, 4, 5},
+    'coalesce': {'coalesced'},
+    'within': {'yes', 'no'},
+    'octets': {'octets', 6, 7},
+}
+
+
+def kind(answer):
+    """An answer's kind, as the tables above name it."""
+    parts = answer.split(' ')
+    if parts[0] == 'refused':
+        return int(parts[1])
+    if parts[0] == 'removed':
+        return ' '.join(parts[:2])
+    return parts[0]
+
+
+def blocks(generator, seed):
+    return generator(random.Random(f'{generator.__name__} {seed}'))
+
+
+def text(block):
+    return ''.join(line + '\n' for line in block).encode('latin-1')
+
+
+def main():
+    table = {g.__name__: g for g in STORE + REST}
+    if len(sys.argv) < 2 or sys.argv[1] == '--list' or sys.argv[1] not in table:
+        for name, generator in table.items():
+            print(f'{name}: {" ".join(generator.__doc__.split())}')
+        return
+    seed = sys.argv[2] if len(sys.argv) > 2 else '1'
+    most = int(sys.argv[3]) if len(sys.argv) > 3 else 1
+    for block in itertools.islice(blocks(table[sys.argv[1]], seed), most):
+        sys.stdout.buffer.write(text(block))
+
+
+if __name__ == '__main__':
+    main()
