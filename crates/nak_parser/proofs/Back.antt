@@ -216,7 +216,7 @@ module _ (n : Nak) (fine : NakFine n) where
   requests-at-back : requestsAt (pdu n) ≡ headerLengthIn (pdu n) + 1 + 2 * fieldLength (n .flag)
   requests-at-back = requests-at (pdu n) ∙ rw field-length-back
 
-  rest : drop (requestsAt (pdu n)) (pdu n) ≡ fields (fieldLength (n .flag)) (flat (n .requests))
+  pub rest : drop (requestsAt (pdu n)) (pdu n) ≡ fields (fieldLength (n .flag)) (flat (n .requests))
   unfolding re
   rest = rest-back (header n ++ so ++ nu ++ de ++ field 1 nakCode ++ st ++ en) re _ (whole ∙ simp append-assoc) (before6 ∙ sym requests-at-back)
 

@@ -1,7 +1,7 @@
 -- Writing and reading undo each other: what the writer accepts is read back whole, and what the reader accepts is written back
 -- octet for octet.
 -- Assumes nothing.
-use mathlib.Core.Path.{_≡_, refl, ap, _∙_}
+use mathlib.Core.Path.{_≡_, refl, sym, ap, _∙_}
 use mathlib.Core.Bool.{false}
 use mathlib.Core.List.{List, [], _∷_}
 use Prim.Native.Nat.{ℕ, zero, suc, _+_, _*_, _-_, _/_, _%_, _^_, _<_}
@@ -12,7 +12,7 @@ use lib.ListN.{length, drop, length-drop}
 use borrow.Author.Tests.{le-ltb, ne-eqb}
 use Rattle.ranges.specs.Store.{pairs, flat, anyAbove}
 use Rattle.ranges.specs.Outcome.{Outcome, accepted}
-use Rattle.octets.specs.Octets.{AllOctets}
+use Rattle.octets.specs.Octets.{fields, AllOctets}
 use Rattle.octets.specs.Flag.{fieldLength, largestOf}
 use Rattle.octets.specs.declared.LargeFileFlag.{LargeFileFlag}
 use Rattle.octets.proofs.Fields.{octets-drop}
@@ -23,10 +23,10 @@ use Rattle.nak.specs.Writer.{isBadList, nakOutcome, writeOutcome, written}
 use Rattle.nak.proofs.Flat.{length-flat, pairs-flat}
 use Rattle.nak.proofs.Checks.{numbersOf, GoodNumbers, not-bad-identity, NakFine, nak-of, fine-nak, write-fine, write-accepted}
 use Rattle.nak_parser.specs.declared.Parsed.{Parsed}
-use Rattle.nak_parser.specs.Parser.{parsedOf, acceptedParsed, flagIn, fieldLengthIn, entityLengthIn, numberLengthIn, headerLengthIn, scopeAt, requestsAt, requestsIn, identityIn, scopeIn, requestsOf, nakIn, readOutcome}
+use Rattle.nak_parser.specs.Parser.{requestsPart, parsedOf, acceptedParsed, flagIn, fieldLengthIn, entityLengthIn, numberLengthIn, headerLengthIn, scopeAt, requestsAt, requestsIn, identityIn, scopeIn, requestsOf, nakIn, readOutcome}
 use Rattle.nak_parser.proofs.Reading.{Read, read-of, header-is, entity-low, entity-high, number-low, number-high}
 use Rattle.nak_parser.proofs.Handed.{requests-at, parsed-accepted}
-use Rattle.nak_parser.proofs.Back.{nak-back, read-back}
+use Rattle.nak_parser.proofs.Back.{nak-back, read-back, rest}
 use Rattle.nak_parser.proofs.Forth.{part-low, f-is, requests-room, length-requests-in, pdu-forth}
 
 -- Reading what was written gives back every field, the requests in order and the flag included, for everything the writer accepts.
@@ -68,6 +68,15 @@ parsed-written xs n buf z = let r = read-written xs n buf z in parsed-says (writ
 -- Every PDU of fields within the limits is accepted.
 pub pdu-accepted : (n : Nak) → nakOutcome n ≡ accepted [] → readOutcome (pdu n) ≡ accepted []
 pdu-accepted n e = read-back n (nak-of n (ap (λ (o : Outcome). o .number) e))
+
+-- Two NAKs within the limits that have one PDU are the same.
+pub pdu-injective : (m n : Nak) → nakOutcome m ≡ accepted [] → nakOutcome n ≡ accepted [] → pdu m ≡ pdu n → m ≡ n
+pdu-injective m n a b e =
+    sym (nak-back m (nak-of m (ap (λ (o : Outcome). o .number) a))) ∙ ap nakIn e ∙ nak-back n (nak-of n (ap (λ (o : Outcome). o .number) b))
+
+-- The part of a PDU that is handed back as its requests holds them, start and end, F octets each.
+pub part-written : (n : Nak) → nakOutcome n ≡ accepted [] → requestsPart (pdu n) ≡ fields (fieldLength (n .flag)) (flat (n .requests))
+part-written n e = rw (pdu-accepted n e) (rest n (nak-of n (ap (λ (o : Outcome). o .number) e)))
 
 above-one : (g : LargeFileFlag) (v : ℕ) {f : ℕ} → f ≡ fieldLength g → v < 256 ^ f → ltb (largestOf g) v ≡ false
 above-one g v e h = le-ltb (largestOf g) v (fits-largest g v (rw e at h))
