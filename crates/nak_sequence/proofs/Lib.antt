@@ -1,0 +1,6 @@
+pub mod Listed
+pub mod Chain
+pub mod Sizes
+pub mod Answers
+pub mod Together
+pub mod Named
