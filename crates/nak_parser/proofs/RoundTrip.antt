@@ -70,6 +70,10 @@ pub pdu-accepted : (n : Nak) → nakOutcome n ≡ accepted [] → readOutcome (p
 pdu-accepted n e = read-back n (nak-of n (ap (λ (o : Outcome). o .number) e))
 
 -- Two NAKs within the limits that have one PDU are the same.
+-- and says what it was made of
+pub read-pdu : (n : Nak) → nakOutcome n ≡ accepted [] → nakIn (pdu n) ≡ n
+read-pdu n e = nak-back n (nak-of n (ap (λ (o : Outcome). o .number) e))
+
 pub pdu-injective : (m n : Nak) → nakOutcome m ≡ accepted [] → nakOutcome n ≡ accepted [] → pdu m ≡ pdu n → m ≡ n
 pdu-injective m n a b e =
     sym (nak-back m (nak-of m (ap (λ (o : Outcome). o .number) a))) ∙ ap nakIn e ∙ nak-back n (nak-of n (ap (λ (o : Outcome). o .number) b))

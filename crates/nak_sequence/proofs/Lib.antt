@@ -4,3 +4,5 @@ pub mod Sizes
 pub mod Answers
 pub mod Together
 pub mod Named
+pub mod Readable
+pub mod Cases

@@ -1,14 +1,13 @@
 -- How long the PDUs of a sequence are: each at most P octets, so g of them at most g × P.
-use mathlib.Core.Path.{_≡_, refl, sym, ap, _∙_}
-use mathlib.Core.List.{List, [], _∷_, _++_}
-use Prim.Native.Nat.{ℕ, zero, suc, _+_, _*_, _-_, _/_, _≤_, _<_, min}
-use native.Mathlib.Nat.{mul-comm, one-mul, suc-mul, le-div-iff-mul-le, div-le-self, div-mul-le-self, mul-le-mul-left, mul-le-mul-right}
+use mathlib.Core.Path.{_≡_}
+use Prim.Native.Nat.{ℕ, zero, suc, _+_, _*_, _-_, _≤_, _<_}
+use native.Mathlib.Nat.{mul-comm, one-mul, suc-mul, le-div-iff-mul-le, div-le-self, div-mul-le-self, mul-le-mul-left}
 use native.Mathlib.Omega.{arith}
 use lib.ListN.{length, take, drop, length-append, length-take}
 use Rattle.octets.specs.declared.LargeFileFlag.{LargeFileFlag}
 use Rattle.octets.specs.declared.LargeFileFlag.the-variants.{Normal, Large}
 use Rattle.octets.specs.Flag.{fieldLength}
-use Rattle.nak.specs.Pdu.{Nak, pdu, headerLength}
+use Rattle.nak.specs.Pdu.{pdu, headerLength}
 use Rattle.nak.proofs.Parts.{length-of-pdu}
 use Rattle.nak_sequence.specs.Entries.{Asking, perPdu, nakAt, naks, octetsOf}
 

@@ -1,16 +1,16 @@
 -- Calls on an unchanged record and list, the first from cursor 0 and each later one from the cursor the last one gave, together write
 -- the octets of the whole sequence, whatever budgets are used; budget 0 writes nothing and keeps the cursor. The whole sequence asks
 -- for every entry, in order.
-use mathlib.Core.Path.{_≡_, refl, sym, ap, ap₂, _∙_}
-use mathlib.Core.List.{List, [], _∷_, _++_, append-assoc, append-nil}
-use Prim.Native.Nat.{ℕ, zero, suc, _+_, _*_, _-_, _/_, _≤_, _<_, min}
+use mathlib.Core.Path.{_≡_, refl, sym, ap, _∙_}
+use mathlib.Core.List.{List, [], _∷_, _++_, append-nil}
+use Prim.Native.Nat.{ℕ, zero, suc, _+_, _*_, _-_, _≤_, _<_, min}
 use native.Mathlib.Nat.{zero-mul, suc-mul, add-mul, le-div-iff-mul-le, lt-div-mul-add, mul-le-mul-right}
 use native.Mathlib.Omega.{arith}
 use native.Mathlib.Decide.{decLt}
-use lib.ListN.{length, take, drop, length-drop, take-append-drop, drop-of-length-le}
+use lib.ListN.{length, take, drop}
 use lib.Seq.{drop-drop, take-add, take-all}
 use Rattle.ranges.specs.Range.{Range}
-use Rattle.nak.specs.Pdu.{Nak, pdu}
+use Rattle.nak.specs.Pdu.{Nak}
 use Rattle.nak_sequence.specs.Entries.{Asking, roundedUp, nakAt, naks, octetsOf}
 use Rattle.nak_sequence.specs.Whole.{wholeSequence, requestsOf, writtenBy, cursorBy, together, sum}
 use Rattle.nak_sequence.proofs.Chain.{octets-append}

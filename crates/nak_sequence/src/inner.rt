@@ -54,14 +54,7 @@ fn scope_start(list: &[u64], count: usize, missing: bool, f: usize) -> u64
 }
 
 // The scope end of the PDU from entry f on: the end of its last entry, or progress where that is the last of all.
-fn scope_end(
-    list: &[u64],
-    count: usize,
-    progress: u64,
-    missing: bool,
-    k: usize,
-    f: usize,
-) -> u64
+fn scope_end(list: &[u64], count: usize, progress: u64, missing: bool, k: usize, f: usize) -> u64
     requires { ⌜ (2 * count ≤ length (now list)) × ((count ≤ 4096) × ((1 ≤ k) × ((k ≤ 4096) × (f < entryCount count missing)))) ⌝ }
     ensures { λ r. ⌜ r ≡ lastEndOf (entriesOf missing (counted (now (list .entry)) count)) progress k f ⌝ }
 {
@@ -123,7 +116,18 @@ pub fn write_pdus(
     let mut f = from;
     let mut n = 0;
     while n < pdus {
-        at = write_pdu(buf, at, list, count, progress, missing, identity, flag, k, f);
+        at = write_pdu(
+            buf,
+            at,
+            list,
+            count,
+            progress,
+            missing,
+            identity,
+            flag,
+            k,
+            f,
+        );
         f += k;
         n += 1;
     }

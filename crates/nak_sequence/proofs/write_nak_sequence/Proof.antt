@@ -1,11 +1,11 @@
 -- `write_nak_sequence` meets its contract: each answer is that of the checks in order, and the buffer is as it was or holds the PDUs.
 use native.Mathlib.Omega.{arith}
-use Prim.Native.Nat.{ℕ, suc, _+_, _*_, _-_, _≤_, _<_}
-use mathlib.Core.Path.{_≡_, refl, sym, ap, _∙_}
-use lib.ListN.{length, getD, take, drop, set}
+use Prim.Native.Nat.{ℕ, _+_, _*_, _-_, _≤_}
+use mathlib.Core.Path.{_≡_, sym, ap, _∙_}
+use lib.ListN.{length, take}
 use borrow.Author.Needs.{needs}
-use mathlib.Core.Bool.{true, false}
-use mathlib.Core.List.{[], _∷_, _++_}
+use mathlib.Core.Bool.{false}
+use mathlib.Core.List.{[], _∷_}
 use native.Mathlib.Nat.{mul-le-mul-right}
 use borrow.Author.Tests.{not-true, not-false}
 use Rattle.ranges.specs.Store.{counted, anyAbove}
@@ -14,7 +14,7 @@ use Rattle.octets.specs.Flag.{fieldLength}
 use Rattle.nak.specs.Writer.{isBadIdentity}
 use Rattle.nak.proofs.Checks.{good-lengths}
 use Rattle.reception.proofs.Sound.{sound, Passed, checked-bad, checked-apart, checked-below}
-use Rattle.nak_sequence.specs.Sequence.{order, headerOf, isBadSize, isTooLarge, asked, pduCount, sent, newCursor}
+use Rattle.nak_sequence.specs.Sequence.{order, isBadSize, isTooLarge, asked, pduCount, sent, newCursor}
 use Rattle.nak_sequence.specs.Entries.{perPdu, naks, octetsOf}
 use Rattle.nak_sequence.proofs.Listed.{length-entries, count-le}
 use Rattle.nak_sequence.proofs.Sizes.{field-low, field-high, per-low, per-high, pdu-short, octets-short}

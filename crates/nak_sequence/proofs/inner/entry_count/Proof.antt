@@ -1,8 +1,4 @@
 -- `entry_count` meets its contract.
-use native.Mathlib.Omega.{arith}
-use Prim.Native.Nat.{ℕ, suc, _+_, _*_, _-_, _≤_, _<_}
-use mathlib.Core.Path.{_≡_, refl, sym, ap, _∙_}
-use lib.ListN.{length, getD, take, drop, set}
 use borrow.Author.Needs.{needs}
 use Rattle.nak_sequence.proofs.inner.entry_count.Statement.{statement}
 use Rattle.nak_sequence.proofs.inner.entry_count.Tie as tie

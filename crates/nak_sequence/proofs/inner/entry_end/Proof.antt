@@ -1,8 +1,7 @@
 -- `entry_end` meets its contract.
 use native.Mathlib.Omega.{arith}
-use Prim.Native.Nat.{ℕ, suc, _+_, _*_, _-_, _≤_, _<_}
-use mathlib.Core.Path.{_≡_, refl, sym, ap, _∙_}
-use lib.ListN.{length, getD, take, drop, set}
+use Prim.Native.Nat.{_-_}
+use mathlib.Core.Path.{sym}
 use borrow.Author.Needs.{needs}
 use Rattle.nak_sequence.proofs.Listed.{end-known, end-missing}
 use Rattle.nak_sequence.proofs.inner.entry_end.Statement.{statement}

@@ -1,8 +1,8 @@
 -- `write_pdu` meets its contract: the metadata request first, where it is due, and then pairs of the list.
 use native.Mathlib.Omega.{arith}
-use Prim.Native.Nat.{ℕ, suc, _+_, _*_, _-_, _≤_, _<_}
-use mathlib.Core.Path.{_≡_, refl, sym, ap, _∙_}
-use lib.ListN.{length, getD, take, drop, set}
+use Prim.Native.Nat.{ℕ, _+_, _-_}
+use mathlib.Core.Path.{ap, _∙_}
+use lib.ListN.{length}
 use borrow.Author.Needs.{needs}
 use Prim.Native.Nat.{min}
 use Rattle.octets.specs.Octets.{withOctets}

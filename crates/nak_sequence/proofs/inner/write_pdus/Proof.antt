@@ -1,9 +1,8 @@
 -- `write_pdus` meets its contract: one PDU a turn, each behind the last.
 use borrow.Author.Needs.{needs}
 use native.Mathlib.Omega.{arith}
-use Prim.Native.Nat.{ℕ, suc, _+_, _*_, _-_, _≤_, _<_}
-use mathlib.Core.Path.{_≡_, refl, sym, ap, _∙_}
-use lib.ListN.{length, getD, take, drop, set}
+use Prim.Native.Nat.{_-_}
+use mathlib.Core.Path.{_≡_}
 use Rattle.ranges.specs.Store.{counted}
 use Rattle.nak_sequence.specs.Inner.{entryCount}
 use Rattle.nak_sequence.specs.Entries.{asking, entriesOf}
