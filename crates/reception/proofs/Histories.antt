@@ -20,12 +20,12 @@ use Rattle.ranges.proofs.Runs.{runs-of}
 use Rattle.ranges.proofs.Stored.{counted-stored}
 use Rattle.ranges.proofs.Without.{Outside, part-covers, length-part}
 use Rattle.reception.specs.Record.{lastEnd, waitingRanges}
-use Rattle.reception.specs.Data.{keptRanges, dataRanges}
+use Rattle.reception.specs.Data.{keptRanges, dataRanges, advanced}
 use Rattle.reception.specs.History.{Event, Data, Metadata, State, fresh, isAccepted, outcome, step, run, keptBy, kept, acceptedOf, endBy, largestEnd, Missing, rangesOf}
 use Rattle.reception.proofs.Sound.{Passed}
 use Rattle.reception.proofs.Keeping.{kept-covers, length-kept}
 use Rattle.reception.proofs.Standing.{Standing, standing-passed, standing-stored, standing-fresh, after-whole, after-last}
-use Rattle.reception.proofs.data.Answers.{after, advanced, data-full, data-taken}
+use Rattle.reception.proofs.data.Answers.{after, data-full, data-taken}
 use Rattle.reception.proofs.data.Accepted.{Taken, taken}
 
 -- a refused event leaves the reception as it was

@@ -55,17 +55,19 @@ dataOutcome rec xs offset size =
     (cond (ltb (capacity xs) (length (dataRanges (rec .missing) (rec .progress) offset (offset + size) (counted xs (rec .count))))) storeFull
     (cond (rec .missing) (accepted (0 ∷ [])) (accepted (1 ∷ [])))))))
 
--- The record afterwards: progress becomes the larger of itself and the end.
-abbrev pub dataRecord : Reception → List ℕ → ℕ → ℕ → Reception
-dataRecord rec xs offset size =
-    lent (dataOutcome rec xs offset size)
-    (record {
+-- The record that an accepted event leaves: progress becomes the larger of itself and the end.
+abbrev pub advanced : Reception → List ℕ → ℕ → ℕ → Reception
+advanced rec xs offset size =
+    record {
       progress = max (rec .progress) (offset + size);
       count = length (dataRanges (rec .missing) (rec .progress) offset (offset + size) (counted xs (rec .count)));
       width = rec .width;
       missing = rec .missing;
-    })
-    rec
+    }
+
+-- The record afterwards.
+abbrev pub dataRecord : Reception → List ℕ → ℕ → ℕ → Reception
+dataRecord rec xs offset size = lent (dataOutcome rec xs offset size) (advanced rec xs offset size) rec
 
 -- The list afterwards.
 abbrev pub dataList : Reception → List ℕ → ℕ → ℕ → List ℕ

@@ -11,19 +11,16 @@ use Rattle.ranges.specs.Store.{counted, capacity, limitOf, stored}
 use Rattle.ranges.specs.Outcome.{Outcome, accepted, lent, storeFull, emptySegment, largeFileSegmentNotSupported, rangeTooLong}
 use Rattle.reception.specs.declared.Reception.{Reception}
 use Rattle.reception.proofs.Sound.{Passed, checked-passed}
-use Rattle.reception.specs.Data.{dataRanges, dataOutcome, dataRecord, dataList}
+use Rattle.reception.specs.Data.{dataRanges, advanced, dataOutcome, dataRecord, dataList}
 
 module _ (rec : Reception) (xs : List ℕ) (offset size : ℕ) where
   abbrev pub after : List Range
   after = dataRanges (rec .missing) (rec .progress) offset (offset + size) (counted xs (rec .count))
 
-  abbrev pub advanced : Reception
-  advanced = record { progress = max (rec .progress) (offset + size); count = length after; width = rec .width; missing = rec .missing }
-
   -- an answer, and what it leaves
   pub answer : (o : Outcome) → o ≡ dataOutcome rec xs offset size
-      → (o ≡ dataOutcome rec xs offset size) × ((lent o advanced rec ≡ dataRecord rec xs offset size) × (lent o (stored after (rec .count) xs) xs ≡ dataList rec xs offset size))
-  answer o e = (e, (ap (λ (p : Outcome). lent p advanced rec) e, ap (λ (p : Outcome). lent p (stored after (rec .count) xs) xs) e))
+      → (o ≡ dataOutcome rec xs offset size) × ((lent o (advanced rec xs offset size) rec ≡ dataRecord rec xs offset size) × (lent o (stored after (rec .count) xs) xs ≡ dataList rec xs offset size))
+  answer o e = (e, (ap (λ (p : Outcome). lent p (advanced rec xs offset size) rec) e, ap (λ (p : Outcome). lent p (stored after (rec .count) xs) xs) e))
 
   module _ (p : Passed xs rec) where
     -- the outcome behind the three checks
