@@ -1,5 +1,4 @@
 -- Flat lists and their pairs.
--- Assumes nothing.
 use mathlib.Core.Path.{_≡_, refl}
 use mathlib.Core.List.{List, [], _∷_, _++_}
 use Prim.Native.Nat.{ℕ, suc, _+_, _*_, _%_, _≤_, _<_}

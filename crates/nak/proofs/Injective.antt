@@ -1,5 +1,4 @@
 -- Two answers with one outcome are equal, so each call's statement allows one answer.
--- Assumes nothing.
 use mathlib.Core.Path.{_≡_, refl, sym, ap, _∙_}
 use mathlib.Core.Bool.{cond}
 use lib.Dec.{eqb}

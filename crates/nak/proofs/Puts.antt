@@ -1,5 +1,4 @@
 -- Parts written side by side make the header, the identity, the data field, the PDU.
--- Assumes nothing.
 use mathlib.Core.Path.{_≡_, refl, sym, ap, _∙_}
 use mathlib.Core.Bool.{Bool, true}
 use mathlib.Core.List.{List, _++_, append-assoc, append-nil}

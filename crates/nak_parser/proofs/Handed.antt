@@ -1,5 +1,4 @@
 -- What is handed back of a packet, accepted or refused; the places of its requests.
--- Assumes nothing.
 use mathlib.Core.Path.{_≡_, refl}
 use mathlib.Core.Bool.{Bool, true, false}
 use mathlib.Core.List.{List, []}

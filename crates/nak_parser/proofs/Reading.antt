@@ -1,5 +1,4 @@
 -- The answers of reading, one for each check that refuses, and the one where none does; and what the checks that are passed show.
--- Assumes nothing.
 use mathlib.Core.Path.{_≡_, refl}
 use mathlib.Core.Bool.{Bool, true, false, not, cond}
 use mathlib.Core.Logic.{⊎-elim}

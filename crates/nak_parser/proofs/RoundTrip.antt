@@ -1,6 +1,5 @@
 -- Writing and reading undo each other: what the writer accepts is read back whole, and what the reader accepts is written back
 -- octet for octet.
--- Assumes nothing.
 use mathlib.Core.Path.{_≡_, refl, sym, ap, _∙_}
 use mathlib.Core.Bool.{false}
 use mathlib.Core.List.{List, [], _∷_}

@@ -1,5 +1,4 @@
 -- One turn of the loop over the requests of a packet.
--- Assumes nothing.
 use mathlib.Core.Path.{_≡_}
 use mathlib.Core.List.{List, _∷_}
 use Prim.Native.Nat.{ℕ, suc, _+_, _*_}

@@ -1,5 +1,4 @@
 -- Stepping the reader from where reading left it gives exactly the requests, in order, and then the end, forever.
--- Assumes nothing.
 use mathlib.Core.Path.{_≡_, refl, sym, ap, _∙_}
 use mathlib.Core.List.{List, [], _∷_, _++_}
 use Prim.Native.Nat.{ℕ, zero, suc, _+_}

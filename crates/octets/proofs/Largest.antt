@@ -1,5 +1,4 @@
 -- The largest number of a flag is the largest that its field holds.
--- Assumes nothing.
 use Prim.Native.Nat.{ℕ, _^_, _≤_, _<_}
 use native.Mathlib.Omega.{arith}
 use Rattle.octets.specs.declared.LargeFileFlag.{LargeFileFlag}

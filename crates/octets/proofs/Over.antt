@@ -1,5 +1,4 @@
 -- A list with octets written over a part of it: two writes side by side are one write of the joined octets.
--- Assumes nothing.
 use mathlib.Core.Path.{_≡_, sym, ap, _∙_}
 use mathlib.Core.List.{List, [], _++_, append-assoc, append-nil}
 use Prim.Native.Nat.{ℕ, _+_, _≤_}

@@ -1,5 +1,4 @@
 -- `nak_reader::next_request` meets its contract: a walk of its MIR, by hand. The reader is taken apart, `next_at` is called on the slice and the place, and the reader is made anew at the next place, inside the result.
--- Assumes nothing.
 use mathlib.Core.Path.{_≡_, refl, ap}
 use Prim.Native.Nat.{ℕ, _<_, _^_}
 use mathlib.Core.List.{[], _∷_}

@@ -1,6 +1,5 @@
 -- `nak_reader::read` meets its contract: a walk of its MIR, by hand. `parse` and `part` are called on the caller's slice, and the result is made of their answers: a reader over the caller's own octets inside it, and the part.
 -- A `&[u8]` is Copy, so what it owns is had as often as it is asked for.
--- Assumes nothing.
 use mathlib.Core.Path.{_≡_, refl, ap, _∙_}
 use Prim.Native.Nat.{ℕ, _+_, _-_, _<_, _≤_, _^_}
 use mathlib.Core.List.{List, [], _∷_}

@@ -1,5 +1,4 @@
 -- `nak_reader::step_from` meets its contract: a walk of its MIR, by hand. A reader is made of the slice and the place, passed to `next_request`, and what comes back is taken apart.
--- Assumes nothing.
 use mathlib.Core.Path.{_≡_, refl, ap}
 use Prim.Native.Nat.{ℕ, _<_, _^_}
 use mathlib.Core.List.{List, [], _∷_}
