@@ -1,7 +1,8 @@
-"""Makes the fixed sample in oracle/sample (run it by `compare --sample`).
+"""Makes the fixed sample that the gate replays (run it by `compare --sample`): crates/pusmarke/data/sample.script and
+the answers, crates/pusmarke/stdout.
 
-store.answers are the Rust's; codec, reception, sequence and console are the model's. The same sources give
-the same octets.
+The answers to the part `store` are the Rust's; those to the other parts are the model's. The same sources give the
+same octets.
 """
 import itertools
 import os
@@ -11,7 +12,8 @@ import model
 import scripts
 from scripts import FLAGS, NARROW, WIDTHS, octets_of, set_list, spans, words
 
-FOLDER = os.path.join(os.path.dirname(os.path.abspath(__file__)), 'sample')
+CRATE = os.path.join(os.path.dirname(os.path.dirname(os.path.abspath(__file__))), 'crates', 'pusmarke')
+SCRIPT, ANSWERS = os.path.join(CRATE, 'data', 'sample.script'), os.path.join(CRATE, 'stdout')
 
 # Document 01's example packet, as document 01 prints it.
 EXAMPLE = ('28 00 19 00 01 07 02 08 00 00 00 00 00 00 03 E8 00 00 00 00 00 00 00 00 00 00 00 64 00 00 00 C8'
@@ -179,7 +181,7 @@ def console(rng):
     out.append('# Lists that are coalesced and lists that are not, known and waiting.')
     for block in rng.sample(list(scripts.records_small(rng)), 60):
         out += block
-    return out + ['', 'show']
+    return out
 
 
 REACHED = {
@@ -192,46 +194,58 @@ REACHED = {
 }
 
 
+def judged_by(rust, run, lines):
+    """The lines that the Rust judges, and its answers; None if the model says something else."""
+    expected = dict(model.answers(scripts.text(lines)))
+    said = dict(zip(expected, run(rust, scripts.text(lines))))
+    lines = [line for at, line in enumerate(lines, 1) if said.get(at) != 'outside']
+    answers = run(rust, scripts.text(lines))
+    if 'outside' in answers or answers != flat(model.answers(scripts.text(lines))):
+        return lines, None
+    return lines, answers
+
+
+def flat(answers):
+    return [a for _, answer in answers for a in answer]
+
+
+def unreached(name, lines):
+    met = {((lines[at - 1].split() or [''])[0], scripts.kind(a))
+           for at, answer in model.answers(scripts.text(lines)) for a in answer}
+    return sorted(f'{call} {what}' for call, all_ in REACHED[name].items() for what in all_ if (call, what) not in met)
+
+
+def put(path, text):
+    before = open(path, 'rb').read() if os.path.exists(path) else None
+    os.makedirs(os.path.dirname(path), exist_ok=True)
+    with open(path, 'wb') as file:
+        file.write(text)
+    state = 'as it was' if before == text else 'changed' if before is not None else 'new'
+    print(f'{os.path.relpath(path)}: {text.count(bytes([10]))} lines, {len(text)} octets, {state}')
+
+
 def make(rust, run):
     """Writes the sample; says of each file whether it is as it was. False if something is amiss."""
-    os.makedirs(FOLDER, exist_ok=True)
-    good = True
-    for maker in (store, codec, reception, sequence, console):
+    amiss, script = [], []
+    # The console as it starts comes first; its last line goes without a newline.
+    for maker in (console, store, codec, reception, sequence):
         name = maker.__name__
         lines = maker(random.Random(f'sample {name}'))
-        script = scripts.text(lines)
-        if maker is console:
-            # The last line goes without its newline.
-            script = script[:-1]
-        expected = dict(model.answers(script))
         if maker is store:
-            # The Rust's own answers; lines outside the domain leave the script.
-            said = dict(zip(expected, run(rust, script)))
-            lines = [line for at, line in enumerate(lines, 1) if said.get(at) != 'outside']
-            script = scripts.text(lines)
-            answers = run(rust, script)
-            if 'outside' in answers:
-                print('store.script: a line is outside the domain')
-                good = False
-            expected = dict(model.answers(script))
-            if [a for answer in expected.values() for a in answer] != answers:
-                print('store.answers: the Rust and the model part')
-                good = False
-        else:
-            answers = [a for answer in expected.values() for a in answer]
-        if maker is codec and answers[:2] != [f'pdu {EXAMPLE}', 'nak 1 1 1 7 2 normal 0 1000 0 0 100 200']:
-            print('codec.answers: not the octets of document 01')
-            good = False
-        met = {((lines[at - 1].split() or [''])[0], scripts.kind(a)) for at, answer in expected.items() for a in answer}
-        lost = sorted(f'{call} {what}' for call, all_ in REACHED[name].items() for what in all_ if (call, what) not in met)
-        if lost:
-            print(f'{name}.script does not reach: {", ".join(lost)}')
-            good = False
-        for kind, text in (('script', script), ('answers', scripts.text(answers))):
-            path = os.path.join(FOLDER, f'{name}.{kind}')
-            before = open(path, 'rb').read() if os.path.exists(path) else None
-            with open(path, 'wb') as file:
-                file.write(text)
-            state = 'as it was' if before == text else 'changed' if before is not None else 'new'
-            print(f'{name}.{kind}: {text.count(bytes([10]))} lines, {len(text)} octets, {state}')
-    return good
+            lines, from_rust = judged_by(rust, run, lines)
+            if from_rust is None:
+                amiss.append('store: the Rust and the model part')
+        if maker is codec and flat(model.answers(scripts.text(lines)))[:2] != [
+                f'pdu {EXAMPLE}', 'nak 1 1 1 7 2 normal 0 1000 0 0 100 200']:
+            amiss.append('codec: not the octets of document 01')
+        amiss += [f'{name} does not reach: {what}' for what in unreached(name, lines)]
+        script += [f'# Part {name}.', *lines]
+    script = scripts.text(script + ['# The last line has no newline.', 'show'])[:-1]
+    answers = flat(model.answers(script))
+    if from_rust is not None and not any(answers[at:at + len(from_rust)] == from_rust for at in range(len(answers))):
+        amiss.append('store: the answers are not those that the Rust gives')
+    put(SCRIPT, script)
+    put(ANSWERS, scripts.text(answers))
+    for what in amiss:
+        print(what)
+    return not amiss

@@ -1,0 +1,198 @@
+// A line of commands: its name, its words, what it does.
+ghost use Prim.Native.Nat.{_≤_};
+ghost use lib.ListN.{length};
+use crate::events;
+use crate::pdus;
+use crate::state;
+use crate::state::State;
+use crate::store;
+use crate::words;
+use crate::words::Arguments;
+
+pub enum Command {
+    New,
+    Lend,
+    Load,
+    Poke,
+    Show,
+    Slots,
+    Add,
+    Remove,
+    Coalesce,
+    Within,
+    Octets,
+    Data,
+    Metadata,
+    Write,
+    Read,
+    Nak,
+    Unknown,
+}
+
+// The commands that set and show what the console holds.
+fn state_named(word: &[u8]) -> Command {
+    if words::same(word, b"new") {
+        return Command::New;
+    }
+    if words::same(word, b"lend") {
+        return Command::Lend;
+    }
+    if words::same(word, b"load") {
+        return Command::Load;
+    }
+    if words::same(word, b"poke") {
+        return Command::Poke;
+    }
+    if words::same(word, b"show") {
+        return Command::Show;
+    }
+    if words::same(word, b"slots") {
+        return Command::Slots;
+    }
+    Command::Unknown
+}
+
+// The calls, and else those.
+fn call_named(word: &[u8]) -> Command {
+    if words::same(word, b"add") {
+        return Command::Add;
+    }
+    if words::same(word, b"remove") {
+        return Command::Remove;
+    }
+    if words::same(word, b"coalesce") {
+        return Command::Coalesce;
+    }
+    if words::same(word, b"within") {
+        return Command::Within;
+    }
+    if words::same(word, b"octets") {
+        return Command::Octets;
+    }
+    if words::same(word, b"data") {
+        return Command::Data;
+    }
+    if words::same(word, b"metadata") {
+        return Command::Metadata;
+    }
+    if words::same(word, b"write") {
+        return Command::Write;
+    }
+    if words::same(word, b"read") {
+        return Command::Read;
+    }
+    if words::same(word, b"nak") {
+        return Command::Nak;
+    }
+    state_named(word)
+}
+
+// The words that a command takes.
+fn arguments(
+    command: Command,
+    line: &[u8],
+    from: usize,
+    values: &mut [u64; 8209],
+    buf: &mut [u8],
+) -> Arguments
+    requires { ⌜ from ≤ length (now line) ⌝ }
+{
+    match command {
+        Command::New => words::take_words(line, from, b"wr", values),
+        Command::Lend => words::take_words(line, from, b"l", values),
+        Command::Load => words::take_words(line, from, b"nkn", values),
+        Command::Poke => words::take_words(line, from, b"n*", values),
+        Command::Show => words::take_words(line, from, b"", values),
+        Command::Slots => words::take_words(line, from, b"l", values),
+        Command::Add => words::take_words(line, from, b"nn", values),
+        Command::Remove => words::take_words(line, from, b"nn", values),
+        Command::Coalesce => words::take_words(line, from, b"", values),
+        Command::Within => words::take_words(line, from, b"nn", values),
+        Command::Octets => words::take_words(line, from, b"fb", values),
+        Command::Data => words::take_words(line, from, b"nn", values),
+        Command::Metadata => words::take_words(line, from, b"", values),
+        Command::Write => words::take_words(line, from, b"nnnnnfnnb*", values),
+        Command::Read => words::packet(line, from, buf),
+        Command::Nak => words::take_words(line, from, b"nnnnnfnnnb", values),
+        Command::Unknown => Arguments::Wrong,
+    }
+}
+
+// Answers a command whose first n words are in `values`; of `read`, whose n octets are in `buf`.
+fn answer(
+    command: Command,
+    s: State,
+    n: usize,
+    memory: &mut [u64],
+    values: &[u64; 8209],
+    buf: &mut [u8],
+    out: &mut [u8; 65536],
+) -> State {
+    match command {
+        Command::New => state::new(s, memory, values[0], values[1], out),
+        Command::Lend => state::lend(s, values[0], out),
+        Command::Load => state::load(s, values[0], values[1], values[2], out),
+        Command::Poke => state::poke(s, memory, values[0], values, n, out),
+        Command::Show => state::show(s, memory, out),
+        Command::Slots => state::slots(s, memory, values[0], out),
+        Command::Add => store::add(s, memory, values[0], values[1], out),
+        Command::Remove => store::remove(s, memory, values[0], values[1], out),
+        Command::Coalesce => store::coalesce(s, memory, out),
+        Command::Within => store::within(s, memory, values[0], values[1], out),
+        Command::Octets => store::octets(s, memory, values[0], values[1], buf, out),
+        Command::Data => events::data(s, memory, values[0], values[1], out),
+        Command::Metadata => events::metadata(s, memory, out),
+        Command::Write => pdus::write(s, values, values, n, buf, out),
+        Command::Read => pdus::read(s, buf, n, out),
+        Command::Nak => pdus::sequence(s, memory, values, buf, out),
+        Command::Unknown => s,
+    }
+}
+
+fn run(
+    s: State,
+    line: &[u8],
+    memory: &mut [u64],
+    values: &mut [u64; 8209],
+    buf: &mut [u8],
+    out: &mut [u8; 65536],
+) -> State {
+    if line.len() == 0 {
+        return s;
+    }
+    if line[0] == b'#' {
+        return s;
+    }
+    let w = words::next_word(line, 0);
+    let start = w.from;
+    let end = w.to;
+    if start == end {
+        return s;
+    }
+    let command = call_named(&line[start..end]);
+    let taken = arguments(command, line, end, values, buf);
+    let Arguments::Taken(n) = taken else {
+        return state::error(s, out);
+    };
+    answer(command, s, n, memory, values, buf, out)
+}
+
+// The line has ended: it is answered, and the next one begins.
+pub fn end_line(
+    s: State,
+    line: &[u8],
+    memory: &mut [u64],
+    values: &mut [u64; 8209],
+    buf: &mut [u8],
+    out: &mut [u8; 65536],
+) -> State {
+    let mut next = s;
+    next.lines = std::num::wrapping_add_u64(s.lines, 1);
+    next.filled = 0;
+    next.overlong = false;
+    if s.overlong {
+        return state::error(next, out);
+    }
+    let filled = state::first_octets(line, s.filled);
+    run(next, &line[..filled], memory, values, buf, out)
+}
