@@ -1,9 +1,9 @@
--- `nak_vectors::show_octets` is safe and ends.
+-- `examples::show_octets` is safe and ends.
 use borrow.Author.Needs.{needs}
 use Prim.Native.Nat.{_-_, _≤_}
 use lib.ListN.{length}
-use Rattle.nak_vectors.proofs.show_octets.Statement.{statement}
-use Rattle.nak_vectors.proofs.show_octets.Tie as tie
+use Rattle.examples.proofs.show_octets.Statement.{statement}
+use Rattle.examples.proofs.show_octets.Tie as tie
 
 abbrev Inv-loop : tie.InvT-loop
 Inv-loop octets i₀ i = i ≤ length octets

@@ -1,4 +1,5 @@
-// Document 01's example packet, written and read, and damaged copies of it. What must come out stands in `stdout`, from the paper.
+// The traced examples that document 01 does not mark P, and damaged copies of its packet. What must come out stands in `stdout`,
+// from the paper. The examples marked P are proved: proofs/Examples.antt.
 use io::print_decimal;
 use io::print_hex;
 use io::write_all;
@@ -6,7 +7,10 @@ use libc::STDOUT_FILENO;
 use nak::Identity;
 use nak::writer::WriteAnswer;
 use nak_parser::Step;
+use nak_sequence::SequenceAnswer;
 use octets::LargeFileFlag;
+use ranges::Width;
+use reception::Reception;
 
 fn space() {
     write_all(STDOUT_FILENO, b" ");
@@ -35,16 +39,20 @@ fn show_octets(octets: &[u8]) {
     end_line();
 }
 
-// Writes the example's PDU into the buffer, and shows the buffer, or the refusal.
-fn show_write(buf: &mut [u8]) {
-    let identity = Identity {
+fn example_identity() -> Identity {
+    Identity {
         entity_length: 1,
         number_length: 1,
         source: 1,
         number: 7,
         destination: 2,
-    };
+    }
+}
+
+// Writes the example's PDU into the buffer, and shows the buffer, or the refusal.
+fn show_write(buf: &mut [u8]) {
     let requests: [u64; 4] = [0, 0, 100, 200];
+    let identity = example_identity();
     let answer = nak::writer::write(identity, LargeFileFlag::Normal, 0, 1000, &requests, buf);
     if let WriteAnswer::BufferSizeMissmatch(needed, given) = answer {
         write_all(STDOUT_FILENO, b"refused 6");
@@ -128,6 +136,53 @@ fn show_damaged(packet: [u8; 32], at: usize, octet: u8, also: usize, other: u8) 
     show_packet(&copy);
 }
 
+// The sequence of five ranges in PDUs of at most `largest` octets: how many PDUs, octets and the cursor, or the number refused.
+fn write_sequence(largest: usize, buf: &mut [u8]) {
+    let list: [u64; 10] = [0, 1, 2, 3, 4, 5, 6, 7, 8, 9];
+    let rec = Reception {
+        progress: 12,
+        count: 5,
+        width: Width::Wide,
+        missing: false,
+    };
+    let identity = example_identity();
+    let answer = nak_sequence::write_nak_sequence(
+        rec,
+        &list,
+        identity,
+        LargeFileFlag::Normal,
+        largest,
+        0,
+        16,
+        buf,
+    );
+    match answer {
+        SequenceAnswer::Sent(pdus, octets, cursor) => {
+            write_all(STDOUT_FILENO, b"sent");
+            show_number(pdus as u64);
+            show_number(octets as u64);
+            show_number(cursor as u64);
+        }
+        SequenceAnswer::PduSize => {
+            write_all(STDOUT_FILENO, b"refused 14");
+        }
+        _ => {
+            write_all(STDOUT_FILENO, b"refused");
+        }
+    }
+    end_line();
+}
+
+// With P = 32 there are two requests in a PDU, so two PDUs of 32 octets and one of 24; P = 23 has no room for one.
+fn show_sequence() {
+    let mut buf = [0u8; 512];
+    write_sequence(32, &mut buf);
+    show_read(&buf[0..32]);
+    show_read(&buf[32..64]);
+    show_read(&buf[64..88]);
+    write_sequence(23, &mut buf);
+}
+
 fn main() {
     let mut buf = [0u8; 32];
     show_write(&mut buf);
@@ -181,4 +236,5 @@ fn main() {
     show_damaged(packet, 19, 0x05, 19, 0x05);
     show_damaged(packet, 19, 0x05, 23, 0x05);
     show_damaged(packet, 27, 0x00, 31, 0x00);
+    show_sequence();
 }

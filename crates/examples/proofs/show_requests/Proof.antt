@@ -1,9 +1,9 @@
--- `nak_vectors::show_requests` is safe and ends.
+-- `examples::show_requests` is safe and ends.
 use borrow.Author.Needs.{needs}
 use Prim.Native.Nat.{_≤_}
 use lib.ListN.{length}
-use Rattle.nak_vectors.proofs.show_requests.Statement.{statement}
-use Rattle.nak_vectors.proofs.show_requests.Tie as tie
+use Rattle.examples.proofs.show_requests.Statement.{statement}
+use Rattle.examples.proofs.show_requests.Tie as tie
 
 abbrev Inv-loop : tie.InvT-loop
 Inv-loop packet from at₀ left₀ at left = left ≤ length packet
