@@ -8,7 +8,7 @@ ghost use Rattle.ranges.specs.Store.{counted, capacity, stored};
 ghost use Rattle.ranges.specs.Outcome.{lent};
 ghost use Rattle.lost_segments.specs.Remove.{removeCase, removeFrom, removeOutcome, removeList};
 use crate::Store;
-use ranges::inner::checks::is_coalesced;
+use ranges::inner::checks::check;
 use ranges::inner::cut::Remains;
 use ranges::inner::cut::cut;
 use ranges::inner::cut::first_past;
@@ -62,7 +62,8 @@ impl Store {
         let count = self.count;
         let width = self.width;
         let top = width.limit();
-        if ranges::bad_store(list, count, top) {
+        let found = check(list, count, top);
+        if found.bad {
             return RemoveAnswer::BadStore;
         }
         if top < a {
@@ -77,7 +78,7 @@ impl Store {
         if b < a {
             return RemoveAnswer::StartLargerThanEnd(a, b);
         }
-        if is_coalesced(list, count) {
+        if found.coalesced {
             return remove_coalesced(list, count, a, b);
         }
         RemoveAnswer::NotCoalesced

@@ -1,4 +1,5 @@
 -- The sequence's answer at each end of its checks, and what the answer leaves in the buffer.
+use native.Mathlib.Omega.{arith}
 use mathlib.Core.Path.{_≡_, ap, _∙_}
 use mathlib.Core.Bool.{true, false, cond}
 use mathlib.Core.List.{List, [], _∷_, _++_}
@@ -8,12 +9,15 @@ use lib.Dec.{ltb}
 use borrow.Author.Tests.{lt-ltb, le-ltb}
 use Rattle.ranges.specs.Outcome as to
 use Rattle.ranges.specs.Outcome.{Outcome, accepted, lent}
-use Rattle.ranges.specs.Store.{anyAbove}
+use Rattle.ranges.specs.Range.{lastEnd}
+use Rattle.ranges.specs.Store.{counted, anyAbove}
+use Rattle.ranges.proofs.Last.{above-counted}
+use Rattle.ranges.proofs.Test.{coalesced-of}
 use Rattle.octets.specs.declared.LargeFileFlag.{LargeFileFlag}
 use Rattle.octets.specs.Flag.{fieldLength, largestOf}
 use Rattle.nak.specs.Writer.{isBadIdentity}
 use Rattle.reception.specs.declared.Reception.{Reception}
-use Rattle.reception.proofs.Sound.{Passed, checked-passed}
+use Rattle.reception.proofs.Sound.{Passed, sound, checked-passed}
 use Rattle.nak_sequence.specs.Sequence.{Order, headerOf, isBadSize, isTooLarge, asked, pduCount, sent, newCursor, sequenceOutcome, sequenceBuffer}
 
 module _ (rec : Reception) (xs : List ℕ) (o : Order) (buf : List ℕ) where
@@ -91,10 +95,12 @@ module _ (rec : Reception) (xs : List ℕ) (g : LargeFileFlag) where
   unfolding isTooLarge
   large-progress h = rw (lt-ltb (largestOf g) (rec .progress) h)
 
-  pub large-list : rec .progress ≤ largestOf g → anyAbove (largestOf g) (take (2 * rec .count) xs) ≡ true → isTooLarge rec xs g ≡ true
-  unfolding isTooLarge
-  large-list h e = rw (le-ltb (largestOf g) (rec .progress) h, e)
+  -- no number of a sound record's list is above progress
+  none-larger : Passed xs rec → rec .progress ≤ largestOf g → anyAbove (largestOf g) (take (2 * rec .count) xs) ≡ false
+  none-larger p h =
+      let e = p .above in
+      above-counted (largestOf g) xs (rec .count) (sound xs rec (p .bad) .store .room) (coalesced-of (counted xs (rec .count)) (p .whole)) ∙ le-ltb (largestOf g) (lastEnd (counted xs (rec .count))) (omega arith)
 
-  pub large-fine : rec .progress ≤ largestOf g → anyAbove (largestOf g) (take (2 * rec .count) xs) ≡ false → isTooLarge rec xs g ≡ false
+  pub large-fine : Passed xs rec → rec .progress ≤ largestOf g → isTooLarge rec xs g ≡ false
   unfolding isTooLarge
-  large-fine h e = rw (le-ltb (largestOf g) (rec .progress) h, e)
+  large-fine p h = rw (le-ltb (largestOf g) (rec .progress) h, none-larger p h)

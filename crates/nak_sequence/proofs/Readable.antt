@@ -8,7 +8,7 @@ use native.Mathlib.Omega.{arith}
 use lib.ListN.{length, getD, take, drop}
 use lib.Dec.{ltb}
 use borrow.Author.Tests.{le-ltb, ne-eqb, ltb-true, ltb-false}
-use Rattle.ranges.specs.Range.{Range, range, Above, Coalesced}
+use Rattle.ranges.specs.Range.{Range, range, Above, Coalesced, lastEnd}
 use Rattle.ranges.specs.Store.{flat, counted, anyAbove}
 use Rattle.ranges.specs.Outcome.{accepted}
 use Rattle.ranges.proofs.Test.{or-false, coalesced-of}
@@ -22,9 +22,8 @@ use Rattle.nak.proofs.Checks.{NakFine, fine-nak}
 use Rattle.nak_parser.specs.Parser.{readOutcome}
 use Rattle.nak_parser.proofs.RoundTrip.{Says, parsed-says, pdu-accepted, read-pdu}
 use Rattle.reception.specs.declared.Reception.{Reception}
-use Rattle.reception.specs.Record.{lastEnd}
 use Rattle.reception.proofs.Sound.{Passed}
-use Rattle.reception.proofs.Ends.{ends-le, last-tail}
+use Rattle.ranges.proofs.Last.{ends-le, last-tail}
 use Rattle.nak_sequence.specs.Entries.{Asking, asking, entriesOf, endOf, scopeStart, scopeEnd, nakAt}
 use Rattle.nak_sequence.specs.Sequence.{Order, headerOf, isBadSize, isTooLarge, asked}
 use Rattle.nak_sequence.proofs.Sizes.{field-low, per-low, pdu-short}

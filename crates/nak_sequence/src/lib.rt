@@ -5,11 +5,8 @@ ghost use Rattle.nak_sequence.specs.Sequence.{sequenceCase, sequenceOutc
 use nak::Identity;
 use nak::inner::bad_identity;
 use octets::LargeFileFlag;
-use ranges::inner::checks::any_above;
-use ranges::inner::checks::is_coalesced;
 use reception::Reception;
-use reception::inner::bad_record;
-use reception::inner::last_end;
+use reception::inner::first_fault;
 
 pub mod inner;
 
@@ -46,13 +43,14 @@ pub fn write_nak_sequence(
     let progress = rec.progress;
     let width = rec.width;
     let missing = rec.missing;
-    if bad_record(list, count, progress, width, missing) {
+    let fault = first_fault(list, count, progress, width, missing);
+    if fault == 10 {
         return SequenceAnswer::BadStore;
     }
-    if !is_coalesced(list, count) {
+    if fault == 8 {
         return SequenceAnswer::NotCoalesced;
     }
-    if progress < last_end(list, count) {
+    if fault == 12 {
         return SequenceAnswer::ScopeBelowList;
     }
     if bad_identity(identity) {
@@ -68,11 +66,8 @@ pub fn write_nak_sequence(
     if largest < h + 1 + 4 * f {
         return SequenceAnswer::PduSize;
     }
-    let top = flag.largest();
-    if top < progress {
-        return SequenceAnswer::LargeSegmentForNormalFileSize;
-    }
-    if any_above(list, 2 * count, top) {
+    // No number of a sound record's list is above progress.
+    if flag.largest() < progress {
         return SequenceAnswer::LargeSegmentForNormalFileSize;
     }
     let e = inner::entry_count(count, missing);

@@ -11,7 +11,7 @@ use native.Mathlib.Decide.{decLt}
 use lib.ListN.{length}
 use lib.Dec.{ltb}
 use borrow.Author.Tests.{lt-ltb, ltb-true}
-use Rattle.ranges.specs.Range.{Range, range, In, Covers, Coalesced}
+use Rattle.ranges.specs.Range.{Range, range, In, Covers, Coalesced, lastEnd}
 use Rattle.ranges.specs.Run.{RunsOf}
 use Rattle.ranges.specs.Store.{capacity, limitOf, stored}
 use Rattle.ranges.specs.Outcome.{Outcome, accepted, storeFull}
@@ -19,7 +19,7 @@ use Rattle.ranges.specs.declared.Width.{Width}
 use Rattle.ranges.proofs.Runs.{runs-of}
 use Rattle.ranges.proofs.Stored.{counted-stored}
 use Rattle.ranges.proofs.Without.{Outside, part-covers, length-part}
-use Rattle.reception.specs.Record.{lastEnd, waitingRanges}
+use Rattle.reception.specs.Record.{waitingRanges}
 use Rattle.reception.specs.Data.{keptRanges, dataRanges, advanced}
 use Rattle.reception.specs.History.{Event, Data, Metadata, State, fresh, isAccepted, outcome, step, run, keptBy, kept, acceptedOf, endBy, largestEnd, Missing, rangesOf}
 use Rattle.reception.proofs.Sound.{Passed}

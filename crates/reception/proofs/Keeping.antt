@@ -9,7 +9,7 @@ use native.Mathlib.Omega.{arith}
 use lib.ListN.{length}
 use lib.Dec.{ltb}
 use borrow.Author.Tests.{lt-ltb, le-ltb, ltb-true, ltb-false}
-use Rattle.ranges.specs.Range.{Range, range, In, Covers, Coalesced}
+use Rattle.ranges.specs.Range.{Range, range, In, Covers, Coalesced, lastEnd}
 use Rattle.ranges.specs.Store.{counted, capacity}
 use Rattle.ranges.specs.Without.{without}
 use Rattle.ranges.specs.Inner.Cut.{first, behind, cutAnswer, cutList}
@@ -17,7 +17,6 @@ use Rattle.ranges.specs.declared.inner.cut.Remains.the-variants.{Left}
 use Rattle.ranges.proofs.Flat.{length-counted}
 use Rattle.ranges.proofs.Stored.{stored-same}
 use Rattle.ranges.proofs.Without.{Outside, without-covers, without-coalesced, length-without, without-nothing}
-use Rattle.reception.specs.Record.{lastEnd}
 use Rattle.reception.specs.Data.{appended, keptRanges}
 use Rattle.reception.proofs.Ends.{below-last, last-below, without-beyond}
 use Rattle.reception.proofs.Gaps.{appended-above, appended-covers, length-appended}

@@ -8,7 +8,7 @@ use native.Mathlib.Omega.{arith}
 use native.Mathlib.Decide.{decLt}
 use lib.ListN.{length, take}
 use borrow.Author.Tests.{le-ltb}
-use Rattle.ranges.specs.Range.{Range, Above, Coalesced}
+use Rattle.ranges.specs.Range.{Range, Above, Coalesced, lastEnd}
 use Rattle.ranges.specs.Store.{counted, flat, limitOf, anyAbove, isBadStore, stored}
 use Rattle.ranges.specs.declared.Width.{Width}
 use Rattle.ranges.proofs.Stored.{counted-stored, take-stored, length-stored}
@@ -16,11 +16,11 @@ use Rattle.ranges.proofs.Test.{of-coalesced}
 use Rattle.ranges.proofs.Good.{good-store}
 use Rattle.ranges.proofs.Without.{part-one, part-none}
 use Rattle.reception.specs.declared.Reception.{Reception}
-use Rattle.reception.specs.Record.{isBadRecord, isWaiting, lastEnd, waitingRanges}
+use Rattle.reception.specs.Record.{isBadRecord, isWaiting, waitingRanges}
 use Rattle.reception.specs.Data.{dataRanges}
 use Rattle.reception.specs.History.{State, rangesOf, fresh}
 use Rattle.reception.proofs.Sound.{Passed}
-use Rattle.reception.proofs.Ends.{ends-le, last-tail}
+use Rattle.ranges.proofs.Last.{ends-le, last-tail}
 use Rattle.reception.proofs.Keeping.{kept-coalesced, kept-last}
 use Rattle.reception.proofs.Waits.{of-waiting}
 

@@ -3,7 +3,7 @@ use Prim.Native.Nat.{ℕ}
 use mathlib.Core.Bool.{Bool, true, false, _&&_, _||_, not, cond}
 use mathlib.Core.List.{List, [], _∷_}
 use lib.Dec.{ltb, eqb}
-use Rattle.ranges.specs.Range.{Range, isCoalesced}
+use Rattle.ranges.specs.Range.{Range, isCoalesced, lastEnd}
 use Rattle.ranges.specs.Store.{counted, limitOf, isBadStore}
 use Rattle.ranges.specs.Without.{part}
 use Rattle.ranges.specs.Outcome.{Outcome, notCoalesced, badStore, scopeBelowList}
@@ -26,12 +26,6 @@ abbrev pub isWaiting : ℕ → List Range → Bool
 isWaiting progress [] = eqb progress 0
 isWaiting progress (r ∷ []) = ltb 0 progress && (eqb (r .start) 0 && eqb (r .end) progress)
 isWaiting progress (r ∷ q ∷ rs) = false
-
--- The end of the last range; 0 where there is none.
-abbrev pub lastEnd : List Range → ℕ
-lastEnd [] = 0
-lastEnd (r ∷ []) = r .end
-lastEnd (r ∷ q ∷ rs) = lastEnd (q ∷ rs)
 
 -- 10: a bad store, a progress above the width's limit, or a waiting record whose list is not the one stated.
 unfoldable pub isBadRecord : List ℕ → Reception → Bool

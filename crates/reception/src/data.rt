@@ -3,12 +3,10 @@ ghost use mathlib.Core.Path.{_≡_};
 ghost use Rattle.reception.specs.Record.{recordOf};
 ghost use Rattle.reception.specs.Data.{dataCase, dataOutcome, dataRecord, dataList};
 use crate::Reception;
-use crate::inner::bad_record;
 use crate::inner::change;
+use crate::inner::first_fault;
 use crate::inner::larger;
-use crate::inner::last_end;
 use ranges::Width;
-use ranges::inner::checks::is_coalesced;
 use ranges::inner::cut::Remains;
 
 pub enum DataAnswer {
@@ -44,21 +42,22 @@ pub fn data_core(
         × ((recordOf (r .progress) (r .count) width missing ≡ dataRecord (recordOf progress count width missing) (now (list .entry)) offset length)
         × (now (list .exit) ≡ dataList (recordOf progress count width missing) (now (list .entry)) offset length)) ⌝ }
 {
-    if bad_record(list, count, progress, width, missing) {
+    let fault = first_fault(list, count, progress, width, missing);
+    if fault == 10 {
         return DataStep {
             answer: DataAnswer::BadStore,
             count,
             progress,
         };
     }
-    if !is_coalesced(list, count) {
+    if fault == 8 {
         return DataStep {
             answer: DataAnswer::NotCoalesced,
             count,
             progress,
         };
     }
-    if progress < last_end(list, count) {
+    if fault == 12 {
         return DataStep {
             answer: DataAnswer::ScopeBelowList,
             count,

@@ -1,15 +1,18 @@
 // Inner: the checks of a record, and the list that an accepted data event leaves. Each function asks for what its callers have
 // checked, so none is a public call.
 ghost use mathlib.Core.Path.{_≡_};
-ghost use mathlib.Core.Bool.{true, false};
+ghost use mathlib.Core.Bool.{true, false, _&&_, not};
 ghost use Prim.Native.Nat.{_+_, _*_, _<_, _≤_, max};
 ghost use lib.ListN.{length};
-ghost use Rattle.ranges.specs.Range.{Coalesced};
+ghost use Rattle.ranges.specs.Range.{Coalesced, lastEnd};
 ghost use Rattle.ranges.specs.Store.{counted, capacity, limitOf, stored};
 ghost use Rattle.ranges.specs.Inner.Cut.{cutAnswer, cutList};
-ghost use Rattle.reception.specs.Record.{isWaiting, lastEnd, isBadRecord, waitingRanges, recordOf};
+ghost use Rattle.reception.specs.Record.{isWaiting, waitingRanges, recordOf};
+ghost use Rattle.reception.specs.Inner.{faultOf};
 ghost use Rattle.reception.specs.Data.{appended, keptRanges, dataRanges};
 use ranges::Width;
+use ranges::inner::checks::check;
+use ranges::inner::checks::last_end;
 use ranges::inner::cut::Remains;
 use ranges::inner::cut::cut;
 use ranges::inner::cut::first_from;
@@ -34,36 +37,39 @@ fn is_waiting(list: &[u64], count: usize, progress: u64) -> bool
     false
 }
 
-// Check 10 of a record.
-pub fn bad_record(list: &[u64], count: usize, progress: u64, width: Width, missing: bool) -> bool
-    ensures { λ r. ⌜ r ≡ isBadRecord (now (list .entry)) (recordOf progress count width missing) ⌝ }
+// Whether metadata is missing and the list is not the one stated for that.
+fn wrong_wait(list: &[u64], count: usize, progress: u64, missing: bool) -> bool
+    requires { ⌜ 2 * count ≤ length (now list) ⌝ }
+    ensures { λ r. ⌜ r ≡ (missing && not (isWaiting progress (counted (now (list .entry)) count))) ⌝ }
 {
-    let top = width.limit();
-    if ranges::bad_store(list, count, top) {
-        return true;
-    }
-    if top < progress {
-        return true;
-    }
     if missing {
-        if is_waiting(list, count, progress) {
-            return false;
-        }
-        return true;
+        return !is_waiting(list, count, progress);
     }
     false
 }
 
-// The end of the last counted pair, for check 12.
-pub fn last_end(list: &[u64], count: usize) -> u64
-    requires { ⌜ 2 * count ≤ length (now list) ⌝ }
-    ensures { λ r. ⌜ r ≡ lastEnd (counted (now (list .entry)) count) ⌝ }
+// The number of the first of the checks 10, 8 and 12 that a record does not pass, or 0.
+pub fn first_fault(list: &[u64], count: usize, progress: u64, width: Width, missing: bool) -> u64
+    ensures { λ r. ⌜ r ≡ faultOf (now (list .entry)) (recordOf progress count width missing) ⌝ }
 {
-    if count == 0 {
-        return 0;
+    let top = width.limit();
+    let found = check(list, count, top);
+    if found.bad {
+        return 10;
     }
-    let l = count - 1;
-    list[2 * l + 1]
+    if top < progress {
+        return 10;
+    }
+    if wrong_wait(list, count, progress, missing) {
+        return 10;
+    }
+    if !found.coalesced {
+        return 8;
+    }
+    if progress < last_end(list, count) {
+        return 12;
+    }
+    0
 }
 
 // The larger of two numbers.

@@ -3,10 +3,8 @@ ghost use mathlib.Core.Path.{_≡_};
 ghost use Rattle.reception.specs.Record.{recordOf};
 ghost use Rattle.reception.specs.Metadata.{metadataCase, metadataOutcome, metadataRecord};
 use crate::Reception;
-use crate::inner::bad_record;
-use crate::inner::last_end;
+use crate::inner::first_fault;
 use ranges::Width;
-use ranges::inner::checks::is_coalesced;
 
 pub enum MetadataAnswer {
     Known,
@@ -33,19 +31,20 @@ pub fn metadata_core(
     ensures { λ r. ⌜ (metadataCase (r .answer) ≡ metadataOutcome (recordOf progress count width missing) (now (list .entry)))
         × (recordOf progress count width (r .missing) ≡ metadataRecord (recordOf progress count width missing) (now (list .entry))) ⌝ }
 {
-    if bad_record(list, count, progress, width, missing) {
+    let fault = first_fault(list, count, progress, width, missing);
+    if fault == 10 {
         return MetadataStep {
             answer: MetadataAnswer::BadStore,
             missing,
         };
     }
-    if !is_coalesced(list, count) {
+    if fault == 8 {
         return MetadataStep {
             answer: MetadataAnswer::NotCoalesced,
             missing,
         };
     }
-    if progress < last_end(list, count) {
+    if fault == 12 {
         return MetadataStep {
             answer: MetadataAnswer::ScopeBelowList,
             missing,

@@ -23,8 +23,8 @@ answer xs st a b o p = (p, ap (λ (o : Outcome). lent o (stored (without a b (co
 limit-requires : tie.Need-limit-requires
 limit-requires c κs = search needs
 
-bad-store-requires : tie.Need-bad-store-requires
-bad-store-requires c κs = search needs
+check-requires : tie.Need-check-requires
+check-requires c κs = search needs
 
 same-length : tie.Need-same-length
 same-length c = search needs
@@ -35,7 +35,7 @@ returns c =
     answer (a .list .now) (a .self) (a .a) (a .b) badStore
     (simp (
       sym (c .before .before .before .limit .ensures),
-      sym (c .before .bad-store .ensures) ∙ c .if1 .taken,
+      sym (c .before .check .ensures .0) ∙ c .if1 .taken,
     ))
 
 same-length-2 : tie.Need-same-length-2
@@ -47,7 +47,7 @@ returns-2 c =
     answer (a .list .now) (a .self) (a .a) (a .b) largeFileSegmentNotSupported
     (simp (
       sym (c .before .before .before .before .limit .ensures),
-      sym (c .before .before .bad-store .ensures) ∙ c .before .if1 .left,
+      sym (c .before .before .check .ensures .0) ∙ c .before .if1 .left,
       lt-ltb _ _ (c .if2 .taken),
     ))
 
@@ -60,7 +60,7 @@ returns-3 c =
     answer (a .list .now) (a .self) (a .a) (a .b) largeFileSegmentNotSupported
     (simp (
       sym (c .before .before .before .before .before .limit .ensures),
-      sym (c .before .before .before .bad-store .ensures) ∙ c .before .before .if1 .left,
+      sym (c .before .before .before .check .ensures .0) ∙ c .before .before .if1 .left,
       le-ltb _ _ (c .before .if2 .left),
       lt-ltb _ _ (c .if3 .taken),
     ))
@@ -74,7 +74,7 @@ returns-4 c =
     answer (a .list .now) (a .self) (a .a) (a .b) emptySegment
     (simp (
       sym (c .before .before .before .before .before .before .limit .ensures),
-      sym (c .before .before .before .before .bad-store .ensures) ∙ c .before .before .before .if1 .left,
+      sym (c .before .before .before .before .check .ensures .0) ∙ c .before .before .before .if1 .left,
       le-ltb _ _ (c .before .before .if2 .left),
       le-ltb _ _ (c .before .if3 .left),
       eq-eqb _ _ (c .if4 .taken),
@@ -89,38 +89,35 @@ returns-5 c =
     answer (a .list .now) (a .self) (a .a) (a .b) (startLargerThanEnd (a .a) (a .b))
     (simp (
       sym (c .before .before .before .before .before .before .before .limit .ensures),
-      sym (c .before .before .before .before .before .bad-store .ensures) ∙ c .before .before .before .before .if1 .left,
+      sym (c .before .before .before .before .before .check .ensures .0) ∙ c .before .before .before .before .if1 .left,
       le-ltb _ _ (c .before .before .before .if2 .left),
       le-ltb _ _ (c .before .before .if3 .left),
       ne-eqb _ _ (c .before .if4 .left),
       lt-ltb _ _ (c .if5 .taken),
     ))
 
-is-coalesced-requires : tie.Need-is-coalesced-requires
-is-coalesced-requires c κs = good _ _ _ (sym (c .before .before .before .before .before .before .bad-store .ensures) ∙ c .before .before .before .before .before .if1 .left) .room
-
 remove-coalesced-requires : tie.Need-remove-coalesced-requires
 remove-coalesced-requires c κs =
-    let a = c .before .before .before .before .before .before .before .before .before .before .before .before .before .args in
-    let g = good _ _ _ (sym (c .before .before .before .before .before .before .before .before .before .bad-store .ensures) ∙ c .before .before .before .before .before .before .before .before .if1 .left) in
-    ((g .room, (g .small, omega arith)), coalesced-of (counted (a .list .now) (a .self .count)) (sym (c .before .before .is-coalesced .ensures) ∙ c .before .if6 .taken))
+    let a = c .before .before .before .before .before .before .before .before .before .before .before .args in
+    let g = good _ _ _ (sym (c .before .before .before .before .before .before .before .check .ensures .0) ∙ c .before .before .before .before .before .before .if1 .left) in
+    ((g .room, (g .small, omega arith)), coalesced-of (counted (a .list .now) (a .self .count)) (sym (c .before .before .before .before .before .before .before .check .ensures .1 (c .before .before .before .before .before .before .if1 .left)) ∙ c .before .if6 .taken))
 
 same-length-6 : tie.Need-same-length-6
 same-length-6 c = search needs
 
 returns-6 : tie.Need-returns-6
 returns-6 c =
-    let a = c .before .before .before .before .before .before .before .before .before .before .before .before .before .before .before .before .args in
+    let a = c .before .before .before .before .before .before .before .before .before .before .before .before .before .before .args in
     let r = c .before .before .remove-coalesced .ensures in
     let w = answer (a .list .now) (a .self) (a .a) (a .b) (removeCase (c .before .before .remove-coalesced .result))
     (simp (
-      sym (c .before .before .before .before .before .before .before .before .before .before .before .before .before .before .limit .ensures),
-      sym (c .before .before .before .before .before .before .before .before .before .before .before .before .bad-store .ensures) ∙ c .before .before .before .before .before .before .before .before .before .before .before .if1 .left,
-      le-ltb _ _ (c .before .before .before .before .before .before .before .before .before .before .if2 .left),
-      le-ltb _ _ (c .before .before .before .before .before .before .before .before .before .if3 .left),
-      ne-eqb _ _ (c .before .before .before .before .before .before .before .before .if4 .left),
-      le-ltb _ _ (c .before .before .before .before .before .before .before .if5 .left),
-      sym (c .before .before .before .before .before .is-coalesced .ensures) ∙ c .before .before .before .before .if6 .taken,
+      sym (c .before .before .before .before .before .before .before .before .before .before .before .before .limit .ensures),
+      sym (c .before .before .before .before .before .before .before .before .before .before .check .ensures .0) ∙ c .before .before .before .before .before .before .before .before .before .if1 .left,
+      le-ltb _ _ (c .before .before .before .before .before .before .before .before .if2 .left),
+      le-ltb _ _ (c .before .before .before .before .before .before .before .if3 .left),
+      ne-eqb _ _ (c .before .before .before .before .before .before .if4 .left),
+      le-ltb _ _ (c .before .before .before .before .before .if5 .left),
+      sym (c .before .before .before .before .before .before .before .before .before .before .check .ensures .1 (c .before .before .before .before .before .before .before .before .before .if1 .left)) ∙ c .before .before .before .before .if6 .taken,
     ) (r .0)) in
     (w .0, r .1 ∙ w .1)
 
@@ -129,16 +126,16 @@ same-length-7 c = search needs
 
 returns-7 : tie.Need-returns-7
 returns-7 c =
-    let a = c .before .before .before .before .before .before .before .before .before .before .before .before .args in
+    let a = c .before .before .before .before .before .before .before .before .before .before .args in
     answer (a .list .now) (a .self) (a .a) (a .b) notCoalesced
     (simp (
-      sym (c .before .before .before .before .before .before .before .before .before .before .limit .ensures),
-      sym (c .before .before .before .before .before .before .before .before .bad-store .ensures) ∙ c .before .before .before .before .before .before .before .if1 .left,
-      le-ltb _ _ (c .before .before .before .before .before .before .if2 .left),
-      le-ltb _ _ (c .before .before .before .before .before .if3 .left),
-      ne-eqb _ _ (c .before .before .before .before .if4 .left),
-      le-ltb _ _ (c .before .before .before .if5 .left),
-      sym (c .before .is-coalesced .ensures) ∙ c .if6 .left,
+      sym (c .before .before .before .before .before .before .before .before .limit .ensures),
+      sym (c .before .before .before .before .before .before .check .ensures .0) ∙ c .before .before .before .before .before .if1 .left,
+      le-ltb _ _ (c .before .before .before .before .if2 .left),
+      le-ltb _ _ (c .before .before .before .if3 .left),
+      ne-eqb _ _ (c .before .before .if4 .left),
+      le-ltb _ _ (c .before .if5 .left),
+      sym (c .before .before .before .before .before .before .check .ensures .1 (c .before .before .before .before .before .if1 .left)) ∙ c .if6 .left,
     ))
 
 pub remove-spec : {M : Type 1} → statement M
@@ -146,7 +143,7 @@ remove-spec =
     tie.close
     (tie.spec
     limit-requires
-    bad-store-requires
+    check-requires
     same-length
     returns
     same-length-2
@@ -157,7 +154,6 @@ remove-spec =
     returns-4
     same-length-5
     returns-5
-    is-coalesced-requires
     remove-coalesced-requires
     same-length-6
     returns-6

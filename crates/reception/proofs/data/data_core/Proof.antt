@@ -11,16 +11,15 @@ use Rattle.ranges.proofs.Test.{coalesced-of}
 use Rattle.ranges.proofs.Cutting.{cut-told, full-told}
 use Rattle.reception.specs.declared.Reception.{Reception}
 use Rattle.reception.specs.Record.{recordOf}
-use Rattle.reception.proofs.Sound.{sound, Passed, checked-bad, checked-apart, checked-below}
+use Rattle.reception.proofs.Sound.{sound, told-bad, told-apart, told-below, told-passed}
 use Rattle.reception.proofs.Waits.{waiting-few}
 use Rattle.reception.proofs.data.Answers.{answer, after, data-empty, data-long, data-large, data-full, data-taken}
-use borrow.Author.Tests.{not-true, not-false}
 use mathlib.Core.Bool.{Bool, true, false, cond}
 use Rattle.reception.proofs.data.data_core.Statement.{statement}
 use Rattle.reception.proofs.data.data_core.Tie as tie
 
-bad-record-requires : tie.Need-bad-record-requires
-bad-record-requires c κs = search needs
+first-fault-requires : tie.Need-first-fault-requires
+first-fault-requires c κs = search needs
 
 same-length : tie.Need-same-length
 same-length c = search needs
@@ -29,44 +28,35 @@ returns : tie.Need-returns
 returns c = let a = c .before .before .before .before .args in
     let xs = a .list .now in
     let rec : Reception = recordOf (a .progress) (a .count) (a .width) (a .missing) in
-    answer rec xs (a .offset) (a .length) badStore (checked-bad xs rec _ (sym (c .before .bad-record .ensures) ∙ c .if1 .taken))
-
-is-coalesced-requires : tie.Need-is-coalesced-requires
-is-coalesced-requires c κs = sound _ _ (sym (c .before .before .bad-record .ensures) ∙ c .before .if1 .left) .store .room
+    answer rec xs (a .offset) (a .length) badStore (told-bad xs rec _ (sym (c .before .first-fault .ensures) ∙ c .if1 .taken))
 
 same-length-2 : tie.Need-same-length-2
 same-length-2 c = search needs
 
 returns-2 : tie.Need-returns-2
-returns-2 c = let a = c .before .before .before .before .before .before .before .args in
+returns-2 c = let a = c .before .before .before .before .before .args in
     let xs = a .list .now in
     let rec : Reception = recordOf (a .progress) (a .count) (a .width) (a .missing) in
-    answer rec xs (a .offset) (a .length) notCoalesced (checked-apart xs rec _ (sym (c .before .before .before .before .bad-record .ensures) ∙ c .before .before .before .if1 .left) (sym (c .before .is-coalesced .ensures) ∙ not-true _ (c .if2 .taken)))
-
-last-end-requires : tie.Need-last-end-requires
-last-end-requires c κs = sound _ _ (sym (c .before .before .before .before .before .bad-record .ensures) ∙ c .before .before .before .before .if1 .left) .store .room
+    answer rec xs (a .offset) (a .length) notCoalesced (told-apart xs rec _ (sym (c .before .before .first-fault .ensures) ∙ c .if2 .taken))
 
 same-length-3 : tie.Need-same-length-3
 same-length-3 c = search needs
 
 returns-3 : tie.Need-returns-3
-returns-3 c = let a = c .before .before .before .before .before .before .before .before .before .before .args in
+returns-3 c = let a = c .before .before .before .before .before .before .args in
     let xs = a .list .now in
     let rec : Reception = recordOf (a .progress) (a .count) (a .width) (a .missing) in
-    answer rec xs (a .offset) (a .length) scopeBelowList (checked-below xs rec _ (sym (c .before .before .before .before .before .before .before .bad-record .ensures) ∙ c .before .before .before .before .before .before .if1 .left) (sym (c .before .before .before .before .is-coalesced .ensures) ∙ not-false _ (c .before .before .before .if2 .left)) (omega (arith, c .before .last-end .ensures, c .if3 .taken)))
+    answer rec xs (a .offset) (a .length) scopeBelowList (told-below xs rec _ (sym (c .before .before .before .first-fault .ensures) ∙ c .if3 .taken))
 
 same-length-4 : tie.Need-same-length-4
 same-length-4 c = search needs
 
 returns-4 : tie.Need-returns-4
-returns-4 c = let a = c .before .before .before .before .before .before .before .before .before .before .before .args in
+returns-4 c = let a = c .before .before .before .before .before .before .before .args in
     let xs = a .list .now in
     let rec : Reception = recordOf (a .progress) (a .count) (a .width) (a .missing) in
-    let p : Passed xs rec = record {
-      bad = sym (c .before .before .before .before .before .before .before .before .bad-record .ensures) ∙ c .before .before .before .before .before .before .before .if1 .left;
-      whole = sym (c .before .before .before .before .before .is-coalesced .ensures) ∙ not-false _ (c .before .before .before .before .if2 .left);
-      above = omega (arith, c .before .before .last-end .ensures, c .before .if3 .left);
-    } in
+    let f = c .before .before .before .before .first-fault .ensures in
+    let p = told-passed xs rec (λ e. c .before .before .before .if1 .left (f ∙ e)) (λ e. c .before .before .if2 .left (f ∙ e)) (λ e. c .before .if3 .left (f ∙ e)) in
     answer rec xs (a .offset) (a .length) emptySegment (data-empty rec xs (a .offset) (a .length) p (c .if4 .taken))
 
 sub-if5 : tie.Need-sub-if5
@@ -76,14 +66,11 @@ same-length-5 : tie.Need-same-length-5
 same-length-5 c = search needs
 
 returns-5 : tie.Need-returns-5
-returns-5 c = let a = c .before .before .before .before .before .before .before .before .before .before .before .before .args in
+returns-5 c = let a = c .before .before .before .before .before .before .before .before .args in
     let xs = a .list .now in
     let rec : Reception = recordOf (a .progress) (a .count) (a .width) (a .missing) in
-    let p : Passed xs rec = record {
-      bad = sym (c .before .before .before .before .before .before .before .before .before .bad-record .ensures) ∙ c .before .before .before .before .before .before .before .before .if1 .left;
-      whole = sym (c .before .before .before .before .before .before .is-coalesced .ensures) ∙ not-false _ (c .before .before .before .before .before .if2 .left);
-      above = omega (arith, c .before .before .before .last-end .ensures, c .before .before .if3 .left);
-    } in
+    let f = c .before .before .before .before .before .first-fault .ensures in
+    let p = told-passed xs rec (λ e. c .before .before .before .before .if1 .left (f ∙ e)) (λ e. c .before .before .before .if2 .left (f ∙ e)) (λ e. c .before .before .if3 .left (f ∙ e)) in
     answer rec xs (a .offset) (a .length) rangeTooLong (data-long rec xs (a .offset) (a .length) p (c .before .if4 .left) (omega arith))
 
 add-end : tie.Need-add-end
@@ -96,25 +83,19 @@ same-length-6 : tie.Need-same-length-6
 same-length-6 c = search needs
 
 returns-6 : tie.Need-returns-6
-returns-6 c = let a = c .before .before .before .before .before .before .before .before .before .before .before .before .before .before .args in
+returns-6 c = let a = c .before .before .before .before .before .before .before .before .before .before .args in
     let xs = a .list .now in
     let rec : Reception = recordOf (a .progress) (a .count) (a .width) (a .missing) in
-    let p : Passed xs rec = record {
-      bad = sym (c .before .before .before .before .before .before .before .before .before .before .before .bad-record .ensures) ∙ c .before .before .before .before .before .before .before .before .before .before .if1 .left;
-      whole = sym (c .before .before .before .before .before .before .before .before .is-coalesced .ensures) ∙ not-false _ (c .before .before .before .before .before .before .before .if2 .left);
-      above = omega (arith, c .before .before .before .before .before .last-end .ensures, c .before .before .before .before .if3 .left);
-    } in
+    let f = c .before .before .before .before .before .before .before .first-fault .ensures in
+    let p = told-passed xs rec (λ e. c .before .before .before .before .before .before .if1 .left (f ∙ e)) (λ e. c .before .before .before .before .before .if2 .left (f ∙ e)) (λ e. c .before .before .before .before .if3 .left (f ∙ e)) in
     answer rec xs (a .offset) (a .length) largeFileSegmentNotSupported (data-large rec xs (a .offset) (a .length) p (c .before .before .before .if4 .left) (omega arith) (omega (arith, c .before .limit .ensures, c .if6 .taken)))
 
 change-requires : tie.Need-change-requires
-change-requires c κs = let a = c .before .before .before .before .before .before .before .before .before .before .before .before .before .before .before .args in
+change-requires c κs = let a = c .before .before .before .before .before .before .before .before .before .before .before .args in
     let xs = a .list .now in
     let rec : Reception = recordOf (a .progress) (a .count) (a .width) (a .missing) in
-    let p : Passed xs rec = record {
-      bad = sym (c .before .before .before .before .before .before .before .before .before .before .before .before .bad-record .ensures) ∙ c .before .before .before .before .before .before .before .before .before .before .before .if1 .left;
-      whole = sym (c .before .before .before .before .before .before .before .before .before .is-coalesced .ensures) ∙ not-false _ (c .before .before .before .before .before .before .before .before .if2 .left);
-      above = omega (arith, c .before .before .before .before .before .before .last-end .ensures, c .before .before .before .before .before .if3 .left);
-    } in
+    let f = c .before .before .before .before .before .before .before .before .first-fault .ensures in
+    let p = told-passed xs rec (λ e. c .before .before .before .before .before .before .before .if1 .left (f ∙ e)) (λ e. c .before .before .before .before .before .before .if2 .left (f ∙ e)) (λ e. c .before .before .before .before .before .if3 .left (f ∙ e)) in
     let s = sound xs rec (p .bad) in
     ((s .store .room, (s .store .small, omega arith)), ((coalesced-of (counted xs (a .count)) (p .whole), p .above), λ m. waiting-few xs (a .count) (a .progress) (s .store .room) (s .waits m)))
 
@@ -131,14 +112,11 @@ same-length-7 : tie.Need-same-length-7
 same-length-7 c = search needs
 
 returns-7 : tie.Need-returns-7
-returns-7 c = let a = c .before .before .before .before .before .before .before .before .before .before .before .before .before .before .before .before .before .before .before .before .args in
+returns-7 c = let a = c .before .before .before .before .before .before .before .before .before .before .before .before .before .before .before .before .args in
     let xs = a .list .now in
     let rec : Reception = recordOf (a .progress) (a .count) (a .width) (a .missing) in
-    let p : Passed xs rec = record {
-      bad = sym (c .before .before .before .before .before .before .before .before .before .before .before .before .before .before .before .before .before .bad-record .ensures) ∙ c .before .before .before .before .before .before .before .before .before .before .before .before .before .before .before .before .if1 .left;
-      whole = sym (c .before .before .before .before .before .before .before .before .before .before .before .before .before .before .is-coalesced .ensures) ∙ not-false _ (c .before .before .before .before .before .before .before .before .before .before .before .before .before .if2 .left);
-      above = omega (arith, c .before .before .before .before .before .before .before .before .before .before .before .last-end .ensures, c .before .before .before .before .before .before .before .before .before .before .if3 .left);
-    } in
+    let f = c .before .before .before .before .before .before .before .before .before .before .before .before .before .first-fault .ensures in
+    let p = told-passed xs rec (λ e. c .before .before .before .before .before .before .before .before .before .before .before .before .if1 .left (f ∙ e)) (λ e. c .before .before .before .before .before .before .before .before .before .before .before .if2 .left (f ∙ e)) (λ e. c .before .before .before .before .before .before .before .before .before .before .if3 .left (f ∙ e)) in
     let k = c .before .before .before .before .change .ensures in
     let t = full-told (capacity xs) (after rec xs (a .offset) (a .length)) (sym (c .enum-told .given .1) ∙ k .0) in
     let w = answer rec xs (a .offset) (a .length) storeFull (data-full rec xs (a .offset) (a .length) p (c .before .before .before .before .before .before .before .before .before .if4 .left) (omega arith) (omega (arith, c .before .before .before .before .before .before .before .limit .ensures, c .before .before .before .before .before .before .if6 .left)) t) in
@@ -148,14 +126,11 @@ same-length-8 : tie.Need-same-length-8
 same-length-8 c = search needs
 
 returns-8 : tie.Need-returns-8
-returns-8 c = let a = c .before .before .before .before .before .before .before .before .before .before .before .before .before .before .before .before .before .before .before .before .before .before .before .args in
+returns-8 c = let a = c .before .before .before .before .before .before .before .before .before .before .before .before .before .before .before .before .before .before .before .args in
     let xs = a .list .now in
     let rec : Reception = recordOf (a .progress) (a .count) (a .width) (a .missing) in
-    let p : Passed xs rec = record {
-      bad = sym (c .before .before .before .before .before .before .before .before .before .before .before .before .before .before .before .before .before .before .before .before .bad-record .ensures) ∙ c .before .before .before .before .before .before .before .before .before .before .before .before .before .before .before .before .before .before .before .if1 .left;
-      whole = sym (c .before .before .before .before .before .before .before .before .before .before .before .before .before .before .before .before .before .is-coalesced .ensures) ∙ not-false _ (c .before .before .before .before .before .before .before .before .before .before .before .before .before .before .before .before .if2 .left);
-      above = omega (arith, c .before .before .before .before .before .before .before .before .before .before .before .before .before .before .last-end .ensures, c .before .before .before .before .before .before .before .before .before .before .before .before .before .if3 .left);
-    } in
+    let f = c .before .before .before .before .before .before .before .before .before .before .before .before .before .before .before .before .first-fault .ensures in
+    let p = told-passed xs rec (λ e. c .before .before .before .before .before .before .before .before .before .before .before .before .before .before .before .if1 .left (f ∙ e)) (λ e. c .before .before .before .before .before .before .before .before .before .before .before .before .before .before .if2 .left (f ∙ e)) (λ e. c .before .before .before .before .before .before .before .before .before .before .before .before .before .if3 .left (f ∙ e)) in
     let k = c .before .before .before .before .before .before .before .change .ensures in
     let t = cut-told (capacity xs) _ (after rec xs (a .offset) (a .length)) (sym (c .before .before .before .left .given .1) ∙ k .0) in
     let m : a .missing ≡ true = c .if7 .taken in
@@ -167,14 +142,11 @@ same-length-9 : tie.Need-same-length-9
 same-length-9 c = search needs
 
 returns-9 : tie.Need-returns-9
-returns-9 c = let a = c .before .before .before .before .before .before .before .before .before .before .before .before .before .before .before .before .before .before .before .before .before .before .before .args in
+returns-9 c = let a = c .before .before .before .before .before .before .before .before .before .before .before .before .before .before .before .before .before .before .before .args in
     let xs = a .list .now in
     let rec : Reception = recordOf (a .progress) (a .count) (a .width) (a .missing) in
-    let p : Passed xs rec = record {
-      bad = sym (c .before .before .before .before .before .before .before .before .before .before .before .before .before .before .before .before .before .before .before .before .bad-record .ensures) ∙ c .before .before .before .before .before .before .before .before .before .before .before .before .before .before .before .before .before .before .before .if1 .left;
-      whole = sym (c .before .before .before .before .before .before .before .before .before .before .before .before .before .before .before .before .before .is-coalesced .ensures) ∙ not-false _ (c .before .before .before .before .before .before .before .before .before .before .before .before .before .before .before .before .if2 .left);
-      above = omega (arith, c .before .before .before .before .before .before .before .before .before .before .before .before .before .before .last-end .ensures, c .before .before .before .before .before .before .before .before .before .before .before .before .before .if3 .left);
-    } in
+    let f = c .before .before .before .before .before .before .before .before .before .before .before .before .before .before .before .before .first-fault .ensures in
+    let p = told-passed xs rec (λ e. c .before .before .before .before .before .before .before .before .before .before .before .before .before .before .before .if1 .left (f ∙ e)) (λ e. c .before .before .before .before .before .before .before .before .before .before .before .before .before .before .if2 .left (f ∙ e)) (λ e. c .before .before .before .before .before .before .before .before .before .before .before .before .before .if3 .left (f ∙ e)) in
     let k = c .before .before .before .before .before .before .before .change .ensures in
     let t = cut-told (capacity xs) _ (after rec xs (a .offset) (a .length)) (sym (c .before .before .before .left .given .1) ∙ k .0) in
     let m : a .missing ≡ false = c .if7 .left in
@@ -186,13 +158,11 @@ pub data-core-spec : {M : Type 1} → statement M
 data-core-spec =
     tie.close
     (tie.spec
-    bad-record-requires
+    first-fault-requires
     same-length
     returns
-    is-coalesced-requires
     same-length-2
     returns-2
-    last-end-requires
     same-length-3
     returns-3
     same-length-4
