@@ -1,21 +1,20 @@
 // The reception events on a record that C keeps.
 ghost use mathlib.Core.Path.{_≡_};
 ghost use Rattle.reception.specs.Record.{freshRecord};
-ghost use Rattle.reception.specs.Data.{dataCase, dataOutcome, dataRecord, dataList};
-ghost use Rattle.reception.specs.Metadata.{metadataCase, metadataOutcome, metadataRecord};
+ghost use Rattle.reception.specs.Data.{dataOutcome, dataRecord, dataList};
+ghost use Rattle.reception.specs.Metadata.{metadataOutcome, metadataRecord};
 ghost use Rattle.pusmarke_c.specs.Input.{widthIn, recordIn};
-ghost use Rattle.pusmarke_c.specs.Answer.{answerOf, numbers, recordOut, advancedTo, markAfter, markedBy};
-use crate::PusmarkeAnswer;
+ghost use Rattle.c_answers.specs.Answer.{answerOf};
+ghost use Rattle.pusmarke_c.specs.Output.{numbers, recordOut, advancedTo, markAfter, markedBy};
 use crate::PusmarkeReception;
-use crate::inner::bare;
 use crate::inner::is_set;
 use crate::inner::mark_of;
 use crate::inner::width_in;
-use crate::inner::with_one;
+use c_answers::PusmarkeAnswer;
+use c_answers::events::of_data;
+use c_answers::events::of_metadata;
 use reception::Reception;
-use reception::data::DataAnswer;
 use reception::data::data_core;
-use reception::metadata::MetadataAnswer;
 use reception::metadata::metadata_core;
 
 #[no_mangle]
@@ -28,22 +27,6 @@ pub extern "C" fn pusmarke_fresh(narrow: u64) -> PusmarkeReception
         count: fresh.count,
         narrow,
         missing: mark_of(fresh.missing),
-    }
-}
-
-fn of_data(a: DataAnswer) -> PusmarkeAnswer
-    ensures { λ r. ⌜ r ≡ answerOf (dataCase a) ⌝ }
-{
-    match a {
-        DataAnswer::Noticed => with_one(0, 0),
-        DataAnswer::Kept => with_one(0, 1),
-        DataAnswer::BadStore => bare(10),
-        DataAnswer::NotCoalesced => bare(8),
-        DataAnswer::ScopeBelowList => bare(12),
-        DataAnswer::EmptySegment => bare(2),
-        DataAnswer::RangeTooLong => bare(9),
-        DataAnswer::LargeFileSegmentNotSupported => bare(4),
-        DataAnswer::StoreFull => bare(1),
     }
 }
 
@@ -106,18 +89,6 @@ pub extern "C" fn pusmarke_data(
     rec.count = s.count;
     rec.progress = s.progress;
     s.answer
-}
-
-fn of_metadata(a: MetadataAnswer) -> PusmarkeAnswer
-    ensures { λ r. ⌜ r ≡ answerOf (metadataCase a) ⌝ }
-{
-    match a {
-        MetadataAnswer::Known => bare(0),
-        MetadataAnswer::BadStore => bare(10),
-        MetadataAnswer::NotCoalesced => bare(8),
-        MetadataAnswer::ScopeBelowList => bare(12),
-        MetadataAnswer::AlreadyKnown => bare(19),
-    }
 }
 
 // What a metadata event leaves: the answer, and C's mark.

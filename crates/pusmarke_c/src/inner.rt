@@ -1,10 +1,7 @@
-// Inner: C's numbers read as the calls' types, and answers made. None is an export.
+// Inner: C's numbers read as the calls' types. None is an export.
 ghost use mathlib.Core.Path.{_≡_};
-ghost use mathlib.Core.List.{[], _∷_};
-ghost use Rattle.ranges.specs.Outcome.{refused};
 ghost use Rattle.pusmarke_c.specs.Input.{isSet, widthIn, flagIn, storeOf, recordIn, identityIn};
-ghost use Rattle.pusmarke_c.specs.Answer.{answerOf, markOf};
-use crate::PusmarkeAnswer;
+ghost use Rattle.pusmarke_c.specs.Output.{markOf};
 use crate::PusmarkeIdentity;
 use crate::PusmarkeReception;
 use lost_segments::Store;
@@ -12,12 +9,6 @@ use nak::Identity;
 use octets::LargeFileFlag;
 use ranges::Width;
 use reception::Reception;
-
-pub fn wide(x: usize) -> u64
-    ensures { λ r. ⌜ r ≡ x ⌝ }
-{
-    x as u64
-}
 
 pub fn is_set(mark: u64) -> bool
     ensures { λ r. ⌜ r ≡ isSet mark ⌝ }
@@ -80,50 +71,5 @@ pub fn identity_in(identity: PusmarkeIdentity) -> Identity
         source: identity.source,
         number: identity.number,
         destination: identity.destination,
-    }
-}
-
-// An answer with no value, with one, with two, with three.
-pub fn bare(refusal: u64) -> PusmarkeAnswer
-    ensures { λ r. ⌜ r ≡ answerOf (refused refusal []) ⌝ }
-{
-    PusmarkeAnswer {
-        refusal,
-        first: 0,
-        second: 0,
-        third: 0,
-    }
-}
-
-pub fn with_one(refusal: u64, first: u64) -> PusmarkeAnswer
-    ensures { λ r. ⌜ r ≡ answerOf (refused refusal (first ∷ [])) ⌝ }
-{
-    PusmarkeAnswer {
-        refusal,
-        first,
-        second: 0,
-        third: 0,
-    }
-}
-
-pub fn with_two(refusal: u64, first: u64, second: u64) -> PusmarkeAnswer
-    ensures { λ r. ⌜ r ≡ answerOf (refused refusal (first ∷ second ∷ [])) ⌝ }
-{
-    PusmarkeAnswer {
-        refusal,
-        first,
-        second,
-        third: 0,
-    }
-}
-
-pub fn with_three(refusal: u64, first: u64, second: u64, third: u64) -> PusmarkeAnswer
-    ensures { λ r. ⌜ r ≡ answerOf (refused refusal (first ∷ second ∷ third ∷ [])) ⌝ }
-{
-    PusmarkeAnswer {
-        refusal,
-        first,
-        second,
-        third,
     }
 }

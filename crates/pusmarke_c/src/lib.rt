@@ -5,15 +5,6 @@ pub mod pdu; // pdu.rt: one NAK PDU written and read
 pub mod sequence; // sequence.rt: the NAK sequence
 pub mod store; // store.rt: the store's five calls
 
-// What a call answers: 0 or the refusal's number, and its values in order, 0 where there is none.
-#[repr(C)]
-pub struct PusmarkeAnswer {
-    pub refusal: u64,
-    pub first: u64,
-    pub second: u64,
-    pub third: u64,
-}
-
 // The record of a reception. Of `narrow` and `missing`, 0 is no and any other number is yes.
 #[repr(C)]
 pub struct PusmarkeReception {

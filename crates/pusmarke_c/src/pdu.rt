@@ -3,41 +3,22 @@ ghost use mathlib.Core.Path.{_≡_};
 ghost use lib.ListN.{length};
 ghost use Rattle.ranges.specs.Store.{pairs};
 ghost use Rattle.nak.specs.Pdu.{saying};
-ghost use Rattle.nak.specs.Writer.{writeCase, writeOutcome, written};
+ghost use Rattle.nak.specs.Writer.{writeOutcome, written};
 ghost use Rattle.nak_parser.specs.Parser.{parsedOf};
 ghost use Rattle.nak_parser.specs.Step.{stepCase, stepOutcome, placeAfter};
 ghost use Rattle.pusmarke_c.specs.Input.{identityIn, flagIn};
-ghost use Rattle.pusmarke_c.specs.Answer.{answerOf, flagOut, identityOut, nakOut, stepOut};
-use crate::PusmarkeAnswer;
+ghost use Rattle.c_answers.specs.Answer.{answerOf};
+ghost use Rattle.pusmarke_c.specs.Output.{flagOut, identityOut, nakOut, stepOut};
 use crate::PusmarkeIdentity;
 use crate::PusmarkeNak;
 use crate::PusmarkeStep;
-use crate::inner::bare;
 use crate::inner::flag_in;
 use crate::inner::identity_in;
-use crate::inner::wide;
-use crate::inner::with_one;
-use crate::inner::with_two;
+use c_answers::PusmarkeAnswer;
+use c_answers::pdu::of_write;
 use nak::Identity;
-use nak::writer::WriteAnswer;
 use nak_parser::Step;
 use octets::LargeFileFlag;
-
-fn of_write(a: WriteAnswer) -> PusmarkeAnswer
-    ensures { λ r. ⌜ r ≡ answerOf (writeCase a) ⌝ }
-{
-    match a {
-        WriteAnswer::Written(octets) => with_one(0, wide(octets)),
-        WriteAnswer::EmptySegment => bare(2),
-        WriteAnswer::StartLargerThanEnd(s, e) => with_two(3, s, e),
-        WriteAnswer::BufferSizeMissmatch(needed, given) => with_two(6, wide(needed), wide(given)),
-        WriteAnswer::LargeSegmentForNormalFileSize => bare(7),
-        WriteAnswer::BadStore => bare(10),
-        WriteAnswer::BadIdentity => bare(13),
-        WriteAnswer::PduSize => bare(14),
-        WriteAnswer::ScopeReversed => bare(18),
-    }
-}
 
 #[no_mangle]
 pub extern "C" fn pusmarke_write(

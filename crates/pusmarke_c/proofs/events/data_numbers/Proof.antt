@@ -2,7 +2,8 @@
 use mathlib.Core.Path.{ap, _∙_}
 use borrow.Author.Needs.{needs}
 use Rattle.reception.specs.declared.Reception.{Reception}
-use Rattle.pusmarke_c.specs.Answer.{answerOf, numbers, advancedTo}
+use Rattle.c_answers.specs.Answer.{answerOf}
+use Rattle.pusmarke_c.specs.Output.{numbers, advancedTo}
 use Rattle.pusmarke_c.proofs.events.data_numbers.Statement.{statement}
 use Rattle.pusmarke_c.proofs.events.data_numbers.Tie as tie
 

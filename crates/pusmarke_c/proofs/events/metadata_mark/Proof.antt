@@ -3,7 +3,8 @@ use Prim.Native.Nat.{ℕ}
 use mathlib.Core.Path.{ap, _∙_}
 use borrow.Author.Needs.{needs}
 use Rattle.reception.specs.declared.Reception.{Reception}
-use Rattle.pusmarke_c.specs.Answer.{answerOf, numbers, markedBy}
+use Rattle.c_answers.specs.Answer.{answerOf}
+use Rattle.pusmarke_c.specs.Output.{numbers, markedBy}
 use Rattle.pusmarke_c.proofs.events.metadata_mark.Statement.{statement}
 use Rattle.pusmarke_c.proofs.events.metadata_mark.Tie as tie
 

@@ -44,13 +44,14 @@ use Rattle.pusmarke_c.specs.declared.PusmarkeReception.{PusmarkeReceptio
 use Rattle.pusmarke_c.specs.declared.events.DataNumbers.{DataNumbers}
 use Rattle.pusmarke_c.specs.Input.{recordIn}
 use Rattle.reception.specs.Data.{dataOutcome, dataRecord, dataList}
-use Rattle.pusmarke_c.specs.Answer.{answerOf, numbers, advancedTo}
+use Rattle.c_answers.specs.Answer.{answerOf}
+use Rattle.pusmarke_c.specs.Output.{numbers, advancedTo}
 use Rattle.pusmarke_c.proofs.PusmarkeReception as T
 use Rattle.pusmarke_c.proofs.PusmarkeReception.Laws as T′
 use Rattle.pusmarke_c.proofs.events.DataNumbers as S
 use Rattle.pusmarke_c.proofs.events.DataNumbers.Laws as S′
-use Rattle.pusmarke_c.proofs.PusmarkeAnswer as N
-use Rattle.pusmarke_c.proofs.PusmarkeAnswer.Laws as N′
+use Rattle.c_answers.proofs.PusmarkeAnswer as N
+use Rattle.c_answers.proofs.PusmarkeAnswer.Laws as N′
 use Rattle.pusmarke_c.proofs.events.data_numbers as core
 use Rattle.pusmarke_c.proofs.events.data_numbers.Symbol as core-def
 use Rattle.pusmarke_c.proofs.events.data_numbers.Symbol.{name as #pusmarke-c·events·data-numbers}

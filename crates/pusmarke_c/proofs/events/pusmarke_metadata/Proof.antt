@@ -43,13 +43,14 @@ use Rattle.pusmarke_c.specs.declared.PusmarkeReception.{PusmarkeReceptio
 use Rattle.pusmarke_c.specs.declared.events.MetadataMark.{MetadataMark}
 use Rattle.pusmarke_c.specs.Input.{recordIn}
 use Rattle.reception.specs.Metadata.{metadataOutcome, metadataRecord}
-use Rattle.pusmarke_c.specs.Answer.{answerOf, numbers, markedBy}
+use Rattle.c_answers.specs.Answer.{answerOf}
+use Rattle.pusmarke_c.specs.Output.{numbers, markedBy}
 use Rattle.pusmarke_c.proofs.PusmarkeReception as T
 use Rattle.pusmarke_c.proofs.PusmarkeReception.Laws as T′
 use Rattle.pusmarke_c.proofs.events.MetadataMark as S
 use Rattle.pusmarke_c.proofs.events.MetadataMark.Laws as S′
-use Rattle.pusmarke_c.proofs.PusmarkeAnswer as N
-use Rattle.pusmarke_c.proofs.PusmarkeAnswer.Laws as N′
+use Rattle.c_answers.proofs.PusmarkeAnswer as N
+use Rattle.c_answers.proofs.PusmarkeAnswer.Laws as N′
 use Rattle.pusmarke_c.proofs.events.metadata_mark as core
 use Rattle.pusmarke_c.proofs.events.metadata_mark.Symbol as core-def
 use Rattle.pusmarke_c.proofs.events.metadata_mark.Symbol.{name as #pusmarke-c·events·metadata-mark}

@@ -1,7 +1,7 @@
 -- `store::of_in_store` meets its contract, case by case.
 use borrow.Author.Needs.{needs}
-use Rattle.pusmarke_c.proofs.store.of_in_store.Statement.{statement}
-use Rattle.pusmarke_c.proofs.store.of_in_store.Tie as tie
+use Rattle.c_answers.proofs.store.of_in_store.Statement.{statement}
+use Rattle.c_answers.proofs.store.of_in_store.Tie as tie
 
 enum-told : tie.Need-enum-told
 enum-told c = search needs

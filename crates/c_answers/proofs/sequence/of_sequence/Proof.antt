@@ -1,8 +1,8 @@
 -- `sequence::of_sequence` meets its contract, case by case.
 use mathlib.Core.Path.{sym}
 use borrow.Author.Needs.{needs}
-use Rattle.pusmarke_c.proofs.sequence.of_sequence.Statement.{statement}
-use Rattle.pusmarke_c.proofs.sequence.of_sequence.Tie as tie
+use Rattle.c_answers.proofs.sequence.of_sequence.Statement.{statement}
+use Rattle.c_answers.proofs.sequence.of_sequence.Tie as tie
 
 enum-known-a : tie.Need-enum-known-a
 enum-known-a c = search needs

@@ -1,8 +1,8 @@
 -- `store::of_write` meets its contract, case by case.
 use mathlib.Core.Path.{sym}
 use borrow.Author.Needs.{needs}
-use Rattle.pusmarke_c.proofs.store.of_write.Statement.{statement}
-use Rattle.pusmarke_c.proofs.store.of_write.Tie as tie
+use Rattle.c_answers.proofs.store.of_write.Statement.{statement}
+use Rattle.c_answers.proofs.store.of_write.Tie as tie
 
 enum-known-a : tie.Need-enum-known-a
 enum-known-a c = search needs

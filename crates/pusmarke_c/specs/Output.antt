@@ -1,4 +1,4 @@
--- What C is handed back.
+-- What C is handed back besides answers.
 use Prim.Native.Nat.{ℕ}
 use mathlib.Core.Bool.{Bool, cond}
 use mathlib.Core.List.{List, [], _∷_}
@@ -9,22 +9,10 @@ use Rattle.octets.specs.declared.LargeFileFlag.the-variants.{Normal, Large}
 use Rattle.reception.specs.declared.Reception.{Reception}
 use Rattle.nak.specs.declared.Identity.{Identity}
 use Rattle.nak_parser.specs.declared.Parsed.{Parsed}
-use Rattle.pusmarke_c.specs.declared.PusmarkeAnswer.{PusmarkeAnswer}
 use Rattle.pusmarke_c.specs.declared.PusmarkeReception.{PusmarkeReception}
 use Rattle.pusmarke_c.specs.declared.PusmarkeIdentity.{PusmarkeIdentity}
 use Rattle.pusmarke_c.specs.declared.PusmarkeNak.{PusmarkeNak}
 use Rattle.pusmarke_c.specs.declared.PusmarkeStep.{PusmarkeStep}
-
--- An outcome in four numbers: 0 or the refusal's number, then the values in order, 0 where there is none. No outcome has more
--- than three values.
-abbrev pub answerOf : Outcome → PusmarkeAnswer
-answerOf o =
-    record {
-      refusal = o .number;
-      first = getD (o .values) 0 0;
-      second = getD (o .values) 1 0;
-      third = getD (o .values) 2 0;
-    }
 
 -- A mark: 1 is yes, 0 is no.
 abbrev pub markOf : Bool → ℕ

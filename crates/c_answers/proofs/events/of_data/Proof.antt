@@ -1,7 +1,7 @@
 -- `events::of_data` meets its contract, case by case.
 use borrow.Author.Needs.{needs}
-use Rattle.pusmarke_c.proofs.events.of_data.Statement.{statement}
-use Rattle.pusmarke_c.proofs.events.of_data.Tie as tie
+use Rattle.c_answers.proofs.events.of_data.Statement.{statement}
+use Rattle.c_answers.proofs.events.of_data.Tie as tie
 
 enum-told : tie.Need-enum-told
 enum-told c = search needs
