@@ -5,20 +5,20 @@ ghost use Rattle.ranges.specs.Store.{pairs};
 ghost use Rattle.nak.specs.Pdu.{saying};
 ghost use Rattle.nak.specs.Writer.{writeOutcome, written};
 ghost use Rattle.nak_parser.specs.Parser.{parsedOf};
-ghost use Rattle.nak_parser.specs.Step.{stepCase, stepOutcome, placeAfter};
-ghost use Rattle.pusmarke_c.specs.Input.{identityIn, flagIn};
+ghost use Rattle.nak_parser.specs.Step.{stepOutcome, placeAfter};
 ghost use Rattle.c_answers.specs.Answer.{answerOf};
-ghost use Rattle.pusmarke_c.specs.Output.{flagOut, identityOut, nakOut, stepOut};
-use crate::PusmarkeIdentity;
-use crate::PusmarkeNak;
-use crate::PusmarkeStep;
-use crate::inner::flag_in;
-use crate::inner::identity_in;
+ghost use Rattle.c_values.specs.Input.{identityIn, flagIn};
+ghost use Rattle.c_values.specs.Output.{nakOut, stepOut};
 use c_answers::PusmarkeAnswer;
 use c_answers::pdu::of_write;
-use nak::Identity;
-use nak_parser::Step;
-use octets::LargeFileFlag;
+use c_values::PusmarkeIdentity;
+use c_values::PusmarkeNak;
+use c_values::PusmarkeStep;
+use c_values::inner::flag_in;
+use c_values::inner::identity_in;
+use c_values::pdu::flag_out;
+use c_values::pdu::identity_out;
+use c_values::pdu::step_out;
 
 #[no_mangle]
 pub extern "C" fn pusmarke_write(
@@ -35,27 +35,6 @@ pub extern "C" fn pusmarke_write(
     let own = identity_in(identity);
     let flag = flag_in(large);
     of_write(nak::writer::write(own, flag, scope_start, scope_end, requests, buf))
-}
-
-fn flag_out(flag: LargeFileFlag) -> u64
-    ensures { λ r. ⌜ r ≡ flagOut flag ⌝ }
-{
-    match flag {
-        LargeFileFlag::Normal => 0,
-        LargeFileFlag::Large => 1,
-    }
-}
-
-fn identity_out(identity: Identity) -> PusmarkeIdentity
-    ensures { λ r. ⌜ r ≡ identityOut identity ⌝ }
-{
-    PusmarkeIdentity {
-        entity_length: identity.entity_length,
-        number_length: identity.number_length,
-        source: identity.source,
-        number: identity.number,
-        destination: identity.destination,
-    }
 }
 
 #[no_mangle]
@@ -78,25 +57,6 @@ pub extern "C" fn pusmarke_read(packet: &[u8]) -> PusmarkeNak
         from: p.from,
         to: p.to,
         next: p.next,
-    }
-}
-
-fn step_out(step: Step, at: usize) -> PusmarkeStep
-    ensures { λ r. ⌜ r ≡ stepOut (stepCase step) at ⌝ }
-{
-    match step {
-        Step::Request(start, end) => PusmarkeStep {
-            found: 1,
-            start,
-            end,
-            at,
-        },
-        Step::End => PusmarkeStep {
-            found: 0,
-            start: 0,
-            end: 0,
-            at,
-        },
     }
 }
 

@@ -2,15 +2,15 @@
 ghost use mathlib.Core.Path.{_≡_};
 ghost use lib.ListN.{length};
 ghost use Rattle.nak_sequence.specs.Sequence.{sequenceOutcome, sequenceBuffer, order};
-ghost use Rattle.pusmarke_c.specs.Input.{recordIn, identityIn, flagIn};
+ghost use Rattle.c_values.specs.Input.{recordIn, identityIn, flagIn};
 ghost use Rattle.c_answers.specs.Answer.{answerOf};
-use crate::PusmarkeIdentity;
-use crate::PusmarkeReception;
-use crate::inner::flag_in;
-use crate::inner::identity_in;
-use crate::inner::record_in;
 use c_answers::PusmarkeAnswer;
 use c_answers::sequence::of_sequence;
+use c_values::PusmarkeIdentity;
+use c_values::PusmarkeReception;
+use c_values::inner::flag_in;
+use c_values::inner::identity_in;
+use c_values::inner::record_in;
 
 #[no_mangle]
 pub extern "C" fn pusmarke_nak_sequence(

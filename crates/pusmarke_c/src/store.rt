@@ -5,16 +5,16 @@ ghost use Rattle.lost_segments.specs.Remove.{removeOutcome, removeList};
 ghost use Rattle.lost_segments.specs.Coalesce.{coalesceOutcome, coalesceList};
 ghost use Rattle.lost_segments.specs.SegmentInStore.{inStoreOutcome};
 ghost use Rattle.lost_segments.specs.WriteSegmentsToBytes.{writeOutcome, writeBuffer};
-ghost use Rattle.pusmarke_c.specs.Input.{storeOf, flagIn};
+ghost use Rattle.c_values.specs.Input.{storeOf, flagIn};
 ghost use Rattle.c_answers.specs.Answer.{answerOf};
-use crate::inner::flag_in;
-use crate::inner::store_of;
 use c_answers::PusmarkeAnswer;
 use c_answers::store::of_add;
 use c_answers::store::of_coalesce;
 use c_answers::store::of_in_store;
 use c_answers::store::of_remove;
 use c_answers::store::of_write;
+use c_values::inner::flag_in;
+use c_values::inner::store_of;
 
 #[no_mangle]
 pub extern "C" fn pusmarke_add(

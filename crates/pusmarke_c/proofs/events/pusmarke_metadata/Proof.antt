@@ -39,22 +39,22 @@ use denote.Triple.Table.{entered, cited}
 use denote.Triple.Walked.{says, Stays, stay-ref, stay-none-slice, walkOf, AllGo, goes-ref, goes-none-slice, Walks, ends-at, walked, walk-meets}
 use denote.Exit.{yes}
 use denote.Signature.{plain}
-use Rattle.pusmarke_c.specs.declared.PusmarkeReception.{PusmarkeReception}
-use Rattle.pusmarke_c.specs.declared.events.MetadataMark.{MetadataMark}
-use Rattle.pusmarke_c.specs.Input.{recordIn}
+use Rattle.c_values.specs.declared.PusmarkeReception.{PusmarkeReception}
+use Rattle.c_values.specs.declared.events.MetadataMark.{MetadataMark}
+use Rattle.c_values.specs.Input.{recordIn}
 use Rattle.reception.specs.Metadata.{metadataOutcome, metadataRecord}
 use Rattle.c_answers.specs.Answer.{answerOf}
-use Rattle.pusmarke_c.specs.Output.{numbers, markedBy}
-use Rattle.pusmarke_c.proofs.PusmarkeReception as T
-use Rattle.pusmarke_c.proofs.PusmarkeReception.Laws as T′
-use Rattle.pusmarke_c.proofs.events.MetadataMark as S
-use Rattle.pusmarke_c.proofs.events.MetadataMark.Laws as S′
+use Rattle.c_values.specs.Output.{numbers, markedBy}
+use Rattle.c_values.proofs.PusmarkeReception as T
+use Rattle.c_values.proofs.PusmarkeReception.Laws as T′
+use Rattle.c_values.proofs.events.MetadataMark as S
+use Rattle.c_values.proofs.events.MetadataMark.Laws as S′
 use Rattle.c_answers.proofs.PusmarkeAnswer as N
 use Rattle.c_answers.proofs.PusmarkeAnswer.Laws as N′
-use Rattle.pusmarke_c.proofs.events.metadata_mark as core
-use Rattle.pusmarke_c.proofs.events.metadata_mark.Symbol as core-def
-use Rattle.pusmarke_c.proofs.events.metadata_mark.Symbol.{name as #pusmarke-c·events·metadata-mark}
-use Rattle.pusmarke_c.proofs.events.metadata_mark.Met as core-thm
+use Rattle.c_values.proofs.events.metadata_mark as core
+use Rattle.c_values.proofs.events.metadata_mark.Symbol as core-def
+use Rattle.c_values.proofs.events.metadata_mark.Symbol.{name as #c-values·events·metadata-mark}
+use Rattle.c_values.proofs.events.metadata_mark.Met as core-thm
 use Rattle.pusmarke_c.proofs.events.pusmarke_metadata.Key.{name as #pusmarke-c·events·pusmarke-metadata}
 use Rattle.pusmarke_c.proofs.events.pusmarke_metadata as f
 use Rattle.pusmarke_c.proofs.events.pusmarke_metadata.Statement as stated
@@ -146,7 +146,7 @@ module _ {M : Type 1} (𝓤 : URA M) (H : Heap 𝓤) (A : Atoms 𝓤) (W : Given
       let fs = LL.owed T.the-type T′.the-laws h _ was in let rs = LL.owed S.the-type S′.the-laws r _ is in
       LL.owes T.the-type T′.the-laws (h′ r) (fs .0, (fs .1 .0, (fs .1 .1 .0, (rs .1 .0, tt))))
 
-  module _ (C : Calls 𝓤 H) (Λ : Loops 𝓤 H) (fm : FmC 𝓤 H (W .laws) C) (known : Triple 𝓤 (C #pusmarke-c·events·metadata-mark) (Core 𝓤 H A at-mem run)) where
+  module _ (C : Calls 𝓤 H) (Λ : Loops 𝓤 H) (fm : FmC 𝓤 H (W .laws) C) (known : Triple 𝓤 (C #c-values·events·metadata-mark) (Core 𝓤 H A at-mem run)) where
     walk : Is (ShrSlice (named 1) κ′ u64) x (s ∷ []) → ent 𝓤 (onEntry 𝓤 H A f.signature (κ, (κ′, tt)) (q, (q′, tt)) a vals) (WpFn 𝓤 H C Λ code.function (vptr b o ∷ s ∷ []) Post)
     walk p =
         qed W ((‵ (flft κ q) ⊛ ‵ (flft κ′ q′) ⊛ ‵ ftrue) ∷ ‵ (owns (MutRef (named 0) κ T.the-row ∷ ShrSlice (named 1) κ′ u64 ∷ []) a vals) ∷ []) ∵ enter ! C Λ code.function (vptr b o ∷ s ∷ []) _ $
@@ -179,7 +179,7 @@ module _ {M : Type 1} (𝓤 : URA M) (H : Heap 𝓤) (A : Atoms 𝓤) (W : Given
         keep ! (0 ∷ 1 ∷ 2 ∷ 4 ∷ 5 ∷ []) $ by ! (exits r (LL.owed S.the-type S′.the-laws r _ is .0) e)))))))))))))))
 
 module _ {M : Type 1} (𝓤 : URA M) (H : Heap 𝓤) (A : Atoms 𝓤) (W : Given 𝓤 H A) (mem : Memory → SProp 𝓤) (run : Routine → Fun 𝓤) where
-  f-walks : (C : Calls 𝓤 H) (Λ : Loops 𝓤 H) → FmC 𝓤 H (W .laws) C → Triple 𝓤 (C #pusmarke-c·events·metadata-mark) (Core 𝓤 H A mem run) → Walks 𝓤 H A f.ended stayed (WpFn 𝓤 H C Λ code.function) (f.clauses 𝓤 H A mem run)
+  f-walks : (C : Calls 𝓤 H) (Λ : Loops 𝓤 H) → FmC 𝓤 H (W .laws) C → Triple 𝓤 (C #c-values·events·metadata-mark) (Core 𝓤 H A mem run) → Walks 𝓤 H A f.ended stayed (WpFn 𝓤 H C Λ code.function) (f.clauses 𝓤 H A mem run)
   f-walks C Λ fm known = walked 𝓤 H A f.ended stayed (f.clauses 𝓤 H A mem run) (WpFn 𝓤 H C Λ code.function) (λ κs. (ptr-vals, (slice-vals, tt)))
       (λ κs. (mut-tells (named 0) (κs .0) T.the-row, (shr-slice-tells (named 1) (κs .1 .0) u64, tt)))
       (λ κs qs bounds a g are. via 𝓤 _ (fst∗ 𝓤 _ (emp 𝓤)) (walk 𝓤 H A W mem run (κs .0) (κs .1 .0) (qs .0) (qs .1 .0) (a .0 .ptr .0) (a .0 .ptr .1) (a .0 .name) (a .0 .now) (a .1 .0) C Λ fm known (are .1 .0)))
@@ -187,7 +187,7 @@ module _ {M : Type 1} (𝓤 : URA M) (H : Heap 𝓤) (A : Atoms 𝓤) (W : Given
   all-go : AllGo 𝓤 H A W 2 (f.signature .params) (f.ended .kept) stayed
   all-go = (goes-ref 𝓤 H A W 2 0 tt (plain (λ _. T.the-row)), (goes-none-slice 𝓤 H A W 2 (1 ∷ []) tt (plain (λ _. u64)) yes, tt))
 
-f-meets : {M : Type 1} (𝓤 : URA M) (H : Heap 𝓤) (A : Atoms 𝓤) → Given 𝓤 H A → (mem : Memory → SProp 𝓤) (run : Routine → Fun 𝓤) (𝓣 : Tables 𝓤 H) → Triple 𝓤 (𝓣 .C #pusmarke-c·events·metadata-mark) (Core 𝓤 H A mem run)
+f-meets : {M : Type 1} (𝓤 : URA M) (H : Heap 𝓤) (A : Atoms 𝓤) → Given 𝓤 H A → (mem : Memory → SProp 𝓤) (run : Routine → Fun 𝓤) (𝓣 : Tables 𝓤 H) → Triple 𝓤 (𝓣 .C #c-values·events·metadata-mark) (Core 𝓤 H A mem run)
     → Meets 𝓤 H A f.signature (WpFn 𝓤 H (𝓣 .C) (𝓣 .Λ) code.function) (f.spec 𝓤 H A mem run)
 f-meets 𝓤 H A W mem run 𝓣 known =
     walk-meets 𝓤 H A f.ended stayed W (all-go 𝓤 H A W mem run) (f.clauses 𝓤 H A mem run)
@@ -199,4 +199,4 @@ pusmarke-metadata-spec 𝓤 H 𝓜 𝓖 𝓡 =
     entered 𝓤 H (tripleOf 𝓤 H (𝓖 .A) f.signature (f.spec 𝓤 H (𝓖 .A) (𝓜 .mem) (𝓡 .run)))
     (tables 𝓤 H 𝓜 𝓡 code.env .C) (tables 𝓤 H 𝓜 𝓡 code.env .Λ) #pusmarke-c·events·pusmarke-metadata code.function (code.unfolded 𝓤 H 𝓜 𝓡)
     (f-meets 𝓤 H (𝓖 .A) (givenOf 𝓤 H 𝓜 𝓖) (𝓜 .mem) (𝓡 .run) (tablesOf 𝓤 H 𝓜 (tables 𝓤 H 𝓜 𝓡 code.env))
-    (cited 𝓤 H (Core 𝓤 H (𝓖 .A) (𝓜 .mem) (𝓡 .run)) 𝓜 𝓡 code.env #pusmarke-c·events·metadata-mark core-def.routine code.calls-pusmarke-c·events·metadata-mark (core-thm.met 𝓤 H 𝓜 𝓖 𝓡)))
+    (cited 𝓤 H (Core 𝓤 H (𝓖 .A) (𝓜 .mem) (𝓡 .run)) 𝓜 𝓡 code.env #c-values·events·metadata-mark core-def.routine code.calls-c-values·events·metadata-mark (core-thm.met 𝓤 H 𝓜 𝓖 𝓡)))

@@ -1,7 +1,7 @@
 -- `pdu::pusmarke_read` meets its contract: it says of C's numbers what the call that it wraps says of its own types.
 use mathlib.Core.Path.{ap}
 use borrow.Author.Needs.{needs}
-use Rattle.pusmarke_c.specs.Output.{nakOut}
+use Rattle.c_values.specs.Output.{nakOut}
 use Rattle.pusmarke_c.proofs.pdu.pusmarke_read.Statement.{statement}
 use Rattle.pusmarke_c.proofs.pdu.pusmarke_read.Tie as tie
 

@@ -9,10 +9,10 @@ use Rattle.octets.specs.declared.LargeFileFlag.the-variants.{Normal, Large}
 use Rattle.reception.specs.declared.Reception.{Reception}
 use Rattle.nak.specs.declared.Identity.{Identity}
 use Rattle.nak_parser.specs.declared.Parsed.{Parsed}
-use Rattle.pusmarke_c.specs.declared.PusmarkeReception.{PusmarkeReception}
-use Rattle.pusmarke_c.specs.declared.PusmarkeIdentity.{PusmarkeIdentity}
-use Rattle.pusmarke_c.specs.declared.PusmarkeNak.{PusmarkeNak}
-use Rattle.pusmarke_c.specs.declared.PusmarkeStep.{PusmarkeStep}
+use Rattle.c_values.specs.declared.PusmarkeReception.{PusmarkeReception}
+use Rattle.c_values.specs.declared.PusmarkeIdentity.{PusmarkeIdentity}
+use Rattle.c_values.specs.declared.PusmarkeNak.{PusmarkeNak}
+use Rattle.c_values.specs.declared.PusmarkeStep.{PusmarkeStep}
 
 -- A mark: 1 is yes, 0 is no.
 abbrev pub markOf : Bool → ℕ

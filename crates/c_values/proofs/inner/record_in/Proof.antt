@@ -1,8 +1,8 @@
 -- `inner::record_in` meets its contract.
 use mathlib.Core.Path.{refl}
 use borrow.Author.Needs.{needs}
-use Rattle.pusmarke_c.proofs.inner.record_in.Statement.{statement}
-use Rattle.pusmarke_c.proofs.inner.record_in.Tie as tie
+use Rattle.c_values.proofs.inner.record_in.Statement.{statement}
+use Rattle.c_values.proofs.inner.record_in.Tie as tie
 
 width-in-requires : tie.Need-width-in-requires
 width-in-requires c κs = search needs

@@ -8,9 +8,9 @@ use borrow.Author.Tests.{eqb-true}
 use Rattle.reception.specs.Record.{freshRecord, recordOf}
 use Rattle.reception.specs.Data.{dataOutcome, dataRecord, advanced}
 use Rattle.reception.specs.Metadata.{metadataOutcome, metadataRecord}
-use Rattle.pusmarke_c.specs.Input.{isSet, widthIn, recordIn}
-use Rattle.pusmarke_c.specs.Output.{recordOut, advancedTo, markAfter, markedBy}
-use Rattle.pusmarke_c.specs.declared.PusmarkeReception.{PusmarkeReception}
+use Rattle.c_values.specs.Input.{isSet, widthIn, recordIn}
+use Rattle.c_values.specs.Output.{recordOut, advancedTo, markAfter, markedBy}
+use Rattle.c_values.specs.declared.PusmarkeReception.{PusmarkeReception}
 
 pub fresh-means : (narrow : ℕ) → recordIn (recordOut narrow (freshRecord (widthIn narrow))) ≡ freshRecord (widthIn narrow)
 fresh-means narrow = refl

@@ -10,8 +10,8 @@ use Rattle.lost_segments.specs.declared.Store.{Store}
 use Rattle.reception.specs.declared.Reception.{Reception}
 use Rattle.reception.specs.Record.{recordOf}
 use Rattle.nak.specs.declared.Identity.{Identity}
-use Rattle.pusmarke_c.specs.declared.PusmarkeReception.{PusmarkeReception}
-use Rattle.pusmarke_c.specs.declared.PusmarkeIdentity.{PusmarkeIdentity}
+use Rattle.c_values.specs.declared.PusmarkeReception.{PusmarkeReception}
+use Rattle.c_values.specs.declared.PusmarkeIdentity.{PusmarkeIdentity}
 
 -- A mark: 0 is no, any other number is yes.
 abbrev pub isSet : ℕ → Bool

@@ -1,8 +1,8 @@
 -- `pdu::step_out` meets its contract.
 use mathlib.Core.Path.{refl}
 use borrow.Author.Needs.{needs}
-use Rattle.pusmarke_c.proofs.pdu.step_out.Statement.{statement}
-use Rattle.pusmarke_c.proofs.pdu.step_out.Tie as tie
+use Rattle.c_values.proofs.pdu.step_out.Statement.{statement}
+use Rattle.c_values.proofs.pdu.step_out.Tie as tie
 
 enum-known-step : tie.Need-enum-known-step
 enum-known-step c = search needs

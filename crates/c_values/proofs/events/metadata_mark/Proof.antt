@@ -4,9 +4,9 @@ use mathlib.Core.Path.{ap, _∙_}
 use borrow.Author.Needs.{needs}
 use Rattle.reception.specs.declared.Reception.{Reception}
 use Rattle.c_answers.specs.Answer.{answerOf}
-use Rattle.pusmarke_c.specs.Output.{numbers, markedBy}
-use Rattle.pusmarke_c.proofs.events.metadata_mark.Statement.{statement}
-use Rattle.pusmarke_c.proofs.events.metadata_mark.Tie as tie
+use Rattle.c_values.specs.Output.{numbers, markedBy}
+use Rattle.c_values.proofs.events.metadata_mark.Statement.{statement}
+use Rattle.c_values.proofs.events.metadata_mark.Tie as tie
 
 width-in-requires : tie.Need-width-in-requires
 width-in-requires c κs = search needs

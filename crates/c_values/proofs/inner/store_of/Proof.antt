@@ -1,8 +1,8 @@
 -- `inner::store_of` meets its contract.
 use mathlib.Core.Path.{refl}
 use borrow.Author.Needs.{needs}
-use Rattle.pusmarke_c.proofs.inner.store_of.Statement.{statement}
-use Rattle.pusmarke_c.proofs.inner.store_of.Tie as tie
+use Rattle.c_values.proofs.inner.store_of.Statement.{statement}
+use Rattle.c_values.proofs.inner.store_of.Tie as tie
 
 width-in-requires : tie.Need-width-in-requires
 width-in-requires c κs = search needs

@@ -1,7 +1,7 @@
-// Inner: C's numbers read as the calls' types. None is an export.
+// Inner: C's numbers read as the calls' types, and marks.
 ghost use mathlib.Core.Path.{_≡_};
-ghost use Rattle.pusmarke_c.specs.Input.{isSet, widthIn, flagIn, storeOf, recordIn, identityIn};
-ghost use Rattle.pusmarke_c.specs.Output.{markOf};
+ghost use Rattle.c_values.specs.Input.{isSet, widthIn, flagIn, storeOf, recordIn, identityIn};
+ghost use Rattle.c_values.specs.Output.{markOf};
 use crate::PusmarkeIdentity;
 use crate::PusmarkeReception;
 use lost_segments::Store;
