@@ -10,7 +10,7 @@
  * not 0: then no number of it is above 4,294,967,295. The large file flag is set where `large` is not 0: then an offset in a PDU has
  * F = 8 octets, else 4.
  *
- * Every argument may have any value: what does not fit is refused by number. A refused call changes nothing that it is lent.
+ * Every number may have any value: what does not fit is refused by number. A refused call changes nothing that it is lent.
  * Refusals are looked for in the order in which each function lists them. */
 #ifndef PUSMARKE_H
 #define PUSMARKE_H
@@ -167,7 +167,8 @@ struct pusmarke_answer pusmarke_write(struct pusmarke_identity identity, uint64_
 struct pusmarke_nak pusmarke_read(const uint8_t *packet, size_t packet_length);
 
 /* The request at a place of a packet, and the place behind it. Start at `next` of pusmarke_read and go on at `at`, until the end is
- * found: fewer than 2F octets from the place to the packet's end. At the end `at` stays. Any packet and place are fine. */
+ * found: fewer than 2F octets from the place to the packet's end, F by the flag in octet 0. At the end `at` stays. Any octets and any place
+ * are fine. */
 struct pusmarke_step pusmarke_next(const uint8_t *packet, size_t packet_length, size_t at);
 
 /* The NAK sequence: PDUs of at most `largest` octets that ask for all that is missing, at most `budget` of them, back to back.
