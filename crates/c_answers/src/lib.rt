@@ -1,0 +1,15 @@
+// The answers of the calls as C's numbers: a function for each answer enum.
+pub mod events; // events.rt: of the data event and of the metadata event
+pub mod inner; // inner.rt: an answer with so many values
+pub mod pdu; // pdu.rt: of writing one NAK PDU
+pub mod sequence; // sequence.rt: of the NAK sequence
+pub mod store; // store.rt: of the store's five calls
+
+// What a call answers: 0 or the refusal's number, and its values in order, 0 where there is none.
+#[repr(C)]
+pub struct PusmarkeAnswer {
+    pub refusal: u64,
+    pub first: u64,
+    pub second: u64,
+    pub third: u64,
+}

@@ -1,0 +1,49 @@
+-- What C's record stands for after an event is the record of the event's definition, and a refused event leaves C's record as it was.
+use mathlib.Core.Path.{_≡_, refl, sym}
+use mathlib.Core.Bool.{Bool, true, false, cond}
+use mathlib.Core.List.{List}
+use Prim.Native.Nat.{ℕ}
+use lib.Dec.{eqb}
+use borrow.Author.Tests.{eqb-true}
+use Rattle.reception.specs.Record.{freshRecord, recordOf}
+use Rattle.reception.specs.Data.{dataOutcome, dataRecord, advanced}
+use Rattle.reception.specs.Metadata.{metadataOutcome, metadataRecord}
+use Rattle.c_values.specs.Input.{isSet, widthIn, recordIn}
+use Rattle.c_values.specs.Output.{recordOut, advancedTo, markAfter, markedBy}
+use Rattle.c_values.specs.declared.PusmarkeReception.{PusmarkeReception}
+
+pub fresh-means : (narrow : ℕ) → recordIn (recordOut narrow (freshRecord (widthIn narrow))) ≡ freshRecord (widthIn narrow)
+fresh-means narrow = refl
+
+-- a record with C's width and mark, or C's own
+data-stands : (t : Bool) (c : PusmarkeReception) (p n : ℕ)
+    → recordIn (advancedTo (cond t (recordOf p n (widthIn (c .narrow)) (isSet (c .missing))) (recordIn c)) c) ≡ cond t (recordOf p n (widthIn (c .narrow)) (isSet (c .missing))) (recordIn c)
+data-stands true c p n = refl
+data-stands false c p n = refl
+
+pub data-means : (c : PusmarkeReception) (xs : List ℕ) (offset size : ℕ)
+    → recordIn (advancedTo (dataRecord (recordIn c) xs offset size) c) ≡ dataRecord (recordIn c) xs offset size
+data-means c xs offset size =
+    let new = advanced (recordIn c) xs offset size in
+    data-stands (eqb (dataOutcome (recordIn c) xs offset size .number) 0) c (new .progress) (new .count)
+
+-- the mark of a record whose metadata is missing or known as C's mark says is C's mark
+mark-stays : (m : ℕ) → markAfter m (isSet m) ≡ m
+mark-stays m = go (eqb m 0) refl where
+  go : (t : Bool) → eqb m 0 ≡ t → markAfter m (isSet m) ≡ m
+  go true e = rw e (sym (eqb-true m 0 e))
+  go false e = rw e refl
+
+pub metadata-refused : (c : PusmarkeReception) → markedBy (recordIn c) c ≡ c
+metadata-refused c = rw (mark-stays (c .missing)) refl
+
+pub data-refused : (c : PusmarkeReception) → advancedTo (recordIn c) c ≡ c
+data-refused c = refl
+
+metadata-stands : (t : Bool) (c : PusmarkeReception)
+    → recordIn (markedBy (cond t (recordOf (c .progress) (c .count) (widthIn (c .narrow)) false) (recordIn c)) c) ≡ cond t (recordOf (c .progress) (c .count) (widthIn (c .narrow)) false) (recordIn c)
+metadata-stands true c = refl
+metadata-stands false c = rw (mark-stays (c .missing)) refl
+
+pub metadata-means : (c : PusmarkeReception) (xs : List ℕ) → recordIn (markedBy (metadataRecord (recordIn c) xs) c) ≡ metadataRecord (recordIn c) xs
+metadata-means c xs = metadata-stands (eqb (metadataOutcome (recordIn c) xs .number) 0) c

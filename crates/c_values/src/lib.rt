@@ -1,0 +1,46 @@
+// C's values: what the numbers that C hands over stand for, and what it is handed back besides answers.
+pub mod events; // events.rt: the two events on the numbers of C's record
+pub mod inner; // inner.rt: C's numbers read as the calls' types
+pub mod pdu; // pdu.rt: what reading and a step hand back
+
+// The record of a reception. Of `narrow` and `missing`, 0 is no and any other number is yes.
+#[repr(C)]
+pub struct PusmarkeReception {
+    pub progress: u64,
+    pub count: usize,
+    pub narrow: u64,
+    pub missing: u64,
+}
+
+#[repr(C)]
+pub struct PusmarkeIdentity {
+    pub entity_length: usize,
+    pub number_length: usize,
+    pub source: u64,
+    pub number: u64,
+    pub destination: u64,
+}
+
+// What reading hands back; refusal 3 carries `start` and `end`.
+#[repr(C)]
+pub struct PusmarkeNak {
+    pub refusal: u64,
+    pub start: u64,
+    pub end: u64,
+    pub identity: PusmarkeIdentity,
+    pub large: u64,
+    pub scope_start: u64,
+    pub scope_end: u64,
+    pub from: usize,
+    pub to: usize,
+    pub next: usize,
+}
+
+// What a step finds: 1 and a request, or 0 at the end; and the place after it.
+#[repr(C)]
+pub struct PusmarkeStep {
+    pub found: u64,
+    pub start: u64,
+    pub end: u64,
+    pub at: usize,
+}

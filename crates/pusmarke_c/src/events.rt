@@ -1,0 +1,65 @@
+// The reception events on a record that C keeps.
+ghost use mathlib.Core.Path.{_≡_};
+ghost use Rattle.reception.specs.Record.{freshRecord};
+ghost use Rattle.reception.specs.Data.{dataOutcome, dataRecord, dataList};
+ghost use Rattle.reception.specs.Metadata.{metadataOutcome, metadataRecord};
+ghost use Rattle.c_answers.specs.Answer.{answerOf};
+ghost use Rattle.c_values.specs.Input.{widthIn, recordIn};
+ghost use Rattle.c_values.specs.Output.{recordOut, advancedTo, markedBy};
+use c_answers::PusmarkeAnswer;
+use c_values::PusmarkeReception;
+use c_values::events::data_numbers;
+use c_values::events::metadata_mark;
+use c_values::inner::mark_of;
+use c_values::inner::width_in;
+use reception::Reception;
+
+#[no_mangle]
+pub extern "C" fn pusmarke_fresh(narrow: u64) -> PusmarkeReception
+    ensures { λ r. ⌜ r ≡ recordOut narrow (freshRecord (widthIn narrow)) ⌝ }
+{
+    let fresh = Reception::fresh(width_in(narrow));
+    PusmarkeReception {
+        progress: fresh.progress,
+        count: fresh.count,
+        narrow,
+        missing: mark_of(fresh.missing),
+    }
+}
+
+// The data event: count and progress of the record change where they lie; narrow and missing stay as handed over.
+#[no_mangle]
+pub extern "C" fn pusmarke_data(
+    rec: &mut PusmarkeReception,
+    list: &mut [u64],
+    offset: u64,
+    length: u64,
+) -> PusmarkeAnswer
+    ensures { λ r. ⌜ (r ≡ answerOf (dataOutcome (recordIn (now (rec .entry))) (now (list .entry)) offset length))
+        × ((now (rec .exit) ≡ advancedTo (dataRecord (recordIn (now (rec .entry))) (now (list .entry)) offset length) (now (rec .entry)))
+        × (now (list .exit) ≡ dataList (recordIn (now (rec .entry))) (now (list .entry)) offset length)) ⌝ }
+{
+    let count = rec.count;
+    let progress = rec.progress;
+    let narrow = rec.narrow;
+    let missing = rec.missing;
+    let s = data_numbers(list, count, progress, narrow, missing, offset, length);
+    rec.count = s.count;
+    rec.progress = s.progress;
+    s.answer
+}
+
+// The metadata event: the mark is cleared where it lies; the list is only read.
+#[no_mangle]
+pub extern "C" fn pusmarke_metadata(rec: &mut PusmarkeReception, list: &[u64]) -> PusmarkeAnswer
+    ensures { λ r. ⌜ (r ≡ answerOf (metadataOutcome (recordIn (now (rec .entry))) (now (list .entry))))
+        × (now (rec .exit) ≡ markedBy (metadataRecord (recordIn (now (rec .entry))) (now (list .entry))) (now (rec .entry))) ⌝ }
+{
+    let count = rec.count;
+    let progress = rec.progress;
+    let narrow = rec.narrow;
+    let missing = rec.missing;
+    let s = metadata_mark(list, count, progress, narrow, missing);
+    rec.missing = s.missing;
+    s.answer
+}

@@ -1,0 +1,86 @@
+// The store's five calls. The list is flat, start and end by turns; `count` pairs of it are counted.
+ghost use mathlib.Core.Path.{_≡_};
+ghost use Rattle.lost_segments.specs.Add.{addOutcome, addList};
+ghost use Rattle.lost_segments.specs.Remove.{removeOutcome, removeList};
+ghost use Rattle.lost_segments.specs.Coalesce.{coalesceOutcome, coalesceList};
+ghost use Rattle.lost_segments.specs.SegmentInStore.{inStoreOutcome};
+ghost use Rattle.lost_segments.specs.WriteSegmentsToBytes.{writeOutcome, writeBuffer};
+ghost use Rattle.c_values.specs.Input.{storeOf, flagIn};
+ghost use Rattle.c_answers.specs.Answer.{answerOf};
+use c_answers::PusmarkeAnswer;
+use c_answers::store::of_add;
+use c_answers::store::of_coalesce;
+use c_answers::store::of_in_store;
+use c_answers::store::of_remove;
+use c_answers::store::of_write;
+use c_values::inner::flag_in;
+use c_values::inner::store_of;
+
+#[no_mangle]
+pub extern "C" fn pusmarke_add(
+    list: &mut [u64],
+    count: usize,
+    narrow: u64,
+    start: u64,
+    end: u64,
+) -> PusmarkeAnswer
+    ensures { λ r. ⌜ r ≡ answerOf (addOutcome (now (list .entry)) (storeOf count narrow) start end) ⌝ }
+    ensures { λ _. ⌜ now (list .exit) ≡ addList (now (list .entry)) (storeOf count narrow) start end ⌝ }
+{
+    let store = store_of(count, narrow);
+    of_add(store.add(list, start, end))
+}
+
+#[no_mangle]
+pub extern "C" fn pusmarke_remove(
+    list: &mut [u64],
+    count: usize,
+    narrow: u64,
+    start: u64,
+    end: u64,
+) -> PusmarkeAnswer
+    ensures { λ r. ⌜ r ≡ answerOf (removeOutcome (now (list .entry)) (storeOf count narrow) start end) ⌝ }
+    ensures { λ _. ⌜ now (list .exit) ≡ removeList (now (list .entry)) (storeOf count narrow) start end ⌝ }
+{
+    let store = store_of(count, narrow);
+    of_remove(store.remove(list, start, end))
+}
+
+#[no_mangle]
+pub extern "C" fn pusmarke_coalesce(list: &mut [u64], count: usize, narrow: u64) -> PusmarkeAnswer
+    ensures { λ r. ⌜ r ≡ answerOf (coalesceOutcome (now (list .entry)) (storeOf count narrow)) ⌝ }
+    ensures { λ _. ⌜ now (list .exit) ≡ coalesceList (now (list .entry)) (storeOf count narrow) ⌝ }
+{
+    let store = store_of(count, narrow);
+    of_coalesce(store.coalesce(list))
+}
+
+#[no_mangle]
+pub extern "C" fn pusmarke_segment_in_store(
+    list: &[u64],
+    count: usize,
+    narrow: u64,
+    start: u64,
+    end: u64,
+) -> PusmarkeAnswer
+    ensures { λ r. ⌜ r ≡ answerOf (inStoreOutcome (now (list .entry)) (storeOf count narrow) start end) ⌝ }
+{
+    let store = store_of(count, narrow);
+    of_in_store(store.segment_in_store(list, start, end))
+}
+
+#[no_mangle]
+pub extern "C" fn pusmarke_write_segments_to_bytes(
+    list: &[u64],
+    count: usize,
+    narrow: u64,
+    large: u64,
+    buf: &mut [u8],
+) -> PusmarkeAnswer
+    ensures { λ r. ⌜ r ≡ answerOf (writeOutcome (now (list .entry)) (storeOf count narrow) (flagIn large) (now (buf .entry))) ⌝ }
+    ensures { λ _. ⌜ now (buf .exit) ≡ writeBuffer (now (list .entry)) (storeOf count narrow) (flagIn large) (now (buf .entry)) ⌝ }
+{
+    let store = store_of(count, narrow);
+    let flag = flag_in(large);
+    of_write(store.write_segments_to_bytes(list, buf, flag))
+}

@@ -1,0 +1,436 @@
+/* Calls every function of pusmarke.h: a small transfer, and each refusal of each call at least once, with what it carries and that
+ * nothing lent changed. Prints a line for what is wrong, and at the end the number of checks. */
+#include "pusmarke.h"
+
+#include <stdio.h>
+#include <string.h>
+
+#define NARROW_LIMIT 4294967295u
+#define PAIRS 4097
+
+static unsigned checks, wrong;
+
+static void holds(int line, int ok) {
+    checks++;
+    if (!ok) {
+        wrong++;
+        printf("line %d: wrong\n", line);
+    }
+}
+
+static void is(int line, struct pusmarke_answer a, uint64_t refusal, uint64_t first, uint64_t second, uint64_t third) {
+    checks++;
+    if (a.refusal != refusal || a.first != first || a.second != second || a.third != third) {
+        wrong++;
+        printf("line %d: refusal %llu, values %llu %llu %llu\n", line, (unsigned long long)a.refusal, (unsigned long long)a.first,
+            (unsigned long long)a.second, (unsigned long long)a.third);
+    }
+}
+
+#define HOLDS(ok) holds(__LINE__, (ok))
+#define ACCEPTED(call, first, second, third) is(__LINE__, (call), PUSMARKE_ACCEPTED, (first), (second), (third))
+#define REFUSED(call, number) is(__LINE__, (call), (number), 0, 0, 0)
+#define CARRIES(call, number, first, second) is(__LINE__, (call), (number), (first), (second), 0)
+#define SAME(a, b) HOLDS(memcmp((a), (b), sizeof(a)) == 0)
+
+/* Longer than any store: 4,097 pairs. */
+static uint64_t long_list[2 * PAIRS];
+static uint8_t large_buffer[16 * 4096];
+
+static void store(void) {
+    uint64_t list[6] = {10, 20, 30, 40, 7, 8};
+    const uint64_t was[6] = {10, 20, 30, 40, 7, 8};
+    const uint64_t added[6] = {10, 20, 30, 40, 50, 60};
+    const uint64_t split[6] = {10, 12, 18, 20, 30, 40};
+    const uint64_t gone[6] = {30, 40, 0, 0, 7, 8};
+    const uint64_t left[6] = {15, 20, 30, 40, 7, 8};
+    const uint64_t apart[8] = {30, 40, 10, 20, 20, 30, 12, 13};
+    const uint64_t run[8] = {10, 40, 0, 0, 0, 0, 0, 0};
+    const uint64_t wide[4] = {1, 2, 3, 4294967296u};
+    uint64_t other[8];
+    uint8_t buf[16], kept[16];
+    const uint8_t octets[16] = {0, 0, 0, 10, 0, 0, 0, 20, 0, 0, 0, 30, 0, 0, 0, 40};
+    const uint8_t octets8[16] = {0, 0, 0, 0, 0, 0, 0, 10, 0, 0, 0, 0, 0, 0, 0, 20};
+
+    /* add */
+    REFUSED(pusmarke_add(list, 5, 2, 0, 50, 60), PUSMARKE_BAD_STORE);
+    REFUSED(pusmarke_add(list, 6, 4, 0, 50, 60), PUSMARKE_BAD_STORE);
+    REFUSED(pusmarke_add(list, 6, SIZE_MAX, 0, 50, 60), PUSMARKE_BAD_STORE);
+    REFUSED(pusmarke_add(long_list, 2 * PAIRS, 0, 0, 50, 60), PUSMARKE_BAD_STORE);
+    memcpy(other, wide, sizeof wide);
+    REFUSED(pusmarke_add(other, 4, 2, 9, 50, 60), PUSMARKE_BAD_STORE);
+    REFUSED(pusmarke_add(list, 6, 2, 1, 4294967296u, 4294967296u), PUSMARKE_EMPTY_SEGMENT);
+    CARRIES(pusmarke_add(list, 6, 2, 0, 60, 50), PUSMARKE_START_LARGER_THAN_END, 60, 50);
+    REFUSED(pusmarke_add(list, 6, 2, 1, 50, 4294967296u), PUSMARKE_LARGE_FILE_SEGMENT_NOT_SUPPORTED);
+    REFUSED(pusmarke_add(list, 4, 2, 0, 50, 60), PUSMARKE_STORE_FULL);
+    REFUSED(pusmarke_add(NULL, 0, 0, 0, 50, 60), PUSMARKE_STORE_FULL);
+    REFUSED(pusmarke_add(NULL, 0, 1, 0, 50, 60), PUSMARKE_BAD_STORE);
+    SAME(was, list);
+    SAME(wide, other);
+    ACCEPTED(pusmarke_add(list, 6, 2, 1, 50, 60), 3, 0, 0);
+    SAME(added, list);
+    ACCEPTED(pusmarke_add(other, 8, 0, 1, 0, NARROW_LIMIT), 1, 0, 0);
+
+    /* remove */
+    memcpy(list, was, sizeof was);
+    REFUSED(pusmarke_remove(list, 5, 2, 0, 12, 18), PUSMARKE_BAD_STORE);
+    REFUSED(pusmarke_remove(list, 6, SIZE_MAX, 0, 12, 18), PUSMARKE_BAD_STORE);
+    REFUSED(pusmarke_remove(list, 6, 2, 1, 4294967296u, 4294967296u), PUSMARKE_LARGE_FILE_SEGMENT_NOT_SUPPORTED);
+    REFUSED(pusmarke_remove(list, 6, 2, 0, 12, 12), PUSMARKE_EMPTY_SEGMENT);
+    CARRIES(pusmarke_remove(list, 6, 2, 0, 18, 12), PUSMARKE_START_LARGER_THAN_END, 18, 12);
+    REFUSED(pusmarke_remove(list, 6, 3, 0, 12, 18), PUSMARKE_NOT_COALESCED);
+    CARRIES(pusmarke_remove(list, 6, 2, 0, 5, 25), PUSMARKE_INVALID_SEGMENT_BOUNDARY, 5, 25);
+    REFUSED(pusmarke_remove(list, 4, 2, 0, 12, 18), PUSMARKE_STORE_FULL);
+    ACCEPTED(pusmarke_remove(list, 6, 2, 0, 20, 30), 0, 0, 0);
+    ACCEPTED(pusmarke_remove(NULL, 0, 0, 0, 20, 30), 0, 0, 0);
+    SAME(was, list);
+    ACCEPTED(pusmarke_remove(list, 6, 2, 0, 12, 18), 1, 3, 0);
+    SAME(split, list);
+    memcpy(list, was, sizeof was);
+    ACCEPTED(pusmarke_remove(list, 6, 2, 0, 10, 20), 1, 1, 0);
+    SAME(gone, list);
+    memcpy(list, was, sizeof was);
+    ACCEPTED(pusmarke_remove(list, 6, 2, 0, 10, 15), 1, 2, 0);
+    SAME(left, list);
+
+    /* coalesce */
+    memcpy(other, apart, sizeof apart);
+    REFUSED(pusmarke_coalesce(other, 7, 1, 0), PUSMARKE_BAD_STORE);
+    REFUSED(pusmarke_coalesce(other, 8, SIZE_MAX, 0), PUSMARKE_BAD_STORE);
+    SAME(apart, other);
+    ACCEPTED(pusmarke_coalesce(other, 8, 4, 0), 1, 0, 0);
+    SAME(run, other);
+    ACCEPTED(pusmarke_coalesce(NULL, 0, 0, 0), 0, 0, 0);
+
+    /* segment_in_store */
+    ACCEPTED(pusmarke_segment_in_store(was, 6, 2, 0, 12, 18), 1, 0, 0);
+    ACCEPTED(pusmarke_segment_in_store(was, 6, 2, 0, 12, 28), 0, 0, 0);
+    ACCEPTED(pusmarke_segment_in_store(was, 6, 2, 0, 18, 12), 1, 0, 0);
+    ACCEPTED(pusmarke_segment_in_store(NULL, 0, 0, 0, 1, 2), 0, 0, 0);
+    REFUSED(pusmarke_segment_in_store(was, 3, 1, 0, 12, 18), PUSMARKE_BAD_STORE);
+
+    /* write_segments_to_bytes */
+    memset(buf, 0xaa, sizeof buf);
+    memcpy(kept, buf, sizeof buf);
+    REFUSED(pusmarke_write_segments_to_bytes(was, 6, 4, 0, 0, buf, 16), PUSMARKE_BAD_STORE);
+    CARRIES(pusmarke_write_segments_to_bytes(was, 6, 2, 0, 0, buf, 15), PUSMARKE_BUFFER_SIZE_MISSMATCH, 16, 15);
+    CARRIES(pusmarke_write_segments_to_bytes(was, 6, 2, 0, 5, buf, 16), PUSMARKE_BUFFER_SIZE_MISSMATCH, 32, 16);
+    REFUSED(pusmarke_write_segments_to_bytes(wide, 4, 2, 0, 0, buf, 16), PUSMARKE_LARGE_SEGMENT_FOR_NORMAL_FILE_SIZE);
+    SAME(kept, buf);
+    ACCEPTED(pusmarke_write_segments_to_bytes(was, 6, 2, 0, 0, buf, 16), 16, 0, 0);
+    SAME(octets, buf);
+    ACCEPTED(pusmarke_write_segments_to_bytes(was, 6, 1, 0, 3, buf, 16), 16, 0, 0);
+    SAME(octets8, buf);
+    ACCEPTED(pusmarke_write_segments_to_bytes(NULL, 0, 0, 0, 0, NULL, 0), 0, 0, 0);
+}
+
+static int record_is(struct pusmarke_reception r, uint64_t progress, size_t count, uint64_t narrow, uint64_t missing) {
+    return r.progress == progress && r.count == count && r.narrow == narrow && r.missing == missing;
+}
+
+static void events(void) {
+    uint64_t list[4] = {0, 0, 5, 6};
+    const uint64_t noticed[4] = {0, 60, 5, 6};
+    const uint64_t joined[4] = {0, 70, 5, 6};
+    const uint64_t holes[4] = {100, 120, 150, 200};
+    const uint64_t none[4] = {0, 0, 0, 0};
+    struct pusmarke_reception r = pusmarke_fresh(0), q;
+
+    HOLDS(record_is(r, 0, 0, 0, 1));
+    HOLDS(record_is(pusmarke_fresh(7), 0, 0, 7, 1));
+
+    /* waiting: noticed; then metadata; then kept behind a gap */
+    ACCEPTED(pusmarke_data(&r, list, 4, 50, 10), 0, 0, 0);
+    HOLDS(record_is(r, 60, 1, 0, 1));
+    SAME(noticed, list);
+    q = r;
+    q.missing = 9;
+    ACCEPTED(pusmarke_data(&q, list, 4, 0, 1), 0, 0, 0);
+    HOLDS(record_is(q, 60, 1, 0, 9));
+    ACCEPTED(pusmarke_metadata(&q, list, 4), 0, 0, 0);
+    HOLDS(record_is(q, 60, 1, 0, 0));
+    ACCEPTED(pusmarke_metadata(&r, list, 4), 0, 0, 0);
+    HOLDS(record_is(r, 60, 1, 0, 0));
+    REFUSED(pusmarke_metadata(&r, list, 4), PUSMARKE_ALREADY_KNOWN);
+    ACCEPTED(pusmarke_data(&r, list, 4, 70, 10), 1, 0, 0);
+    HOLDS(record_is(r, 80, 1, 0, 0));
+    SAME(joined, list);
+
+    /* known: two holes, and both filled at once */
+    r = pusmarke_fresh(0);
+    memset(list, 0, sizeof list);
+    ACCEPTED(pusmarke_metadata(&r, list, 4), 0, 0, 0);
+    ACCEPTED(pusmarke_data(&r, list, 4, 0, 100), 1, 0, 0);
+    ACCEPTED(pusmarke_data(&r, list, 4, 200, 100), 1, 0, 0);
+    q = r;
+    REFUSED(pusmarke_data(&q, list, 2, 120, 30), PUSMARKE_STORE_FULL);
+    HOLDS(record_is(q, 300, 1, 0, 0));
+    ACCEPTED(pusmarke_data(&r, list, 4, 120, 30), 1, 0, 0);
+    HOLDS(record_is(r, 300, 2, 0, 0));
+    SAME(holes, list);
+
+    /* refusals change neither record nor list */
+    q = r;
+    REFUSED(pusmarke_data(&q, list, 3, 0, 1), PUSMARKE_BAD_STORE);
+    q.missing = 2;
+    REFUSED(pusmarke_data(&q, list, 4, 0, 1), PUSMARKE_BAD_STORE);
+    REFUSED(pusmarke_metadata(&q, list, 4), PUSMARKE_BAD_STORE);
+    HOLDS(record_is(q, 300, 2, 0, 2));
+    q = r;
+    q.count = SIZE_MAX;
+    REFUSED(pusmarke_data(&q, list, 4, 0, 1), PUSMARKE_BAD_STORE);
+    HOLDS(record_is(q, 300, SIZE_MAX, 0, 0));
+    q = r;
+    q.progress = 199;
+    REFUSED(pusmarke_data(&q, list, 4, 0, 1), PUSMARKE_SCOPE_BELOW_LIST);
+    REFUSED(pusmarke_metadata(&q, list, 4), PUSMARKE_SCOPE_BELOW_LIST);
+    HOLDS(record_is(q, 199, 2, 0, 0));
+    REFUSED(pusmarke_data(&r, list, 4, UINT64_MAX, 0), PUSMARKE_EMPTY_SEGMENT);
+    REFUSED(pusmarke_data(&r, list, 4, UINT64_MAX, 1), PUSMARKE_RANGE_TOO_LONG);
+    q = r;
+    q.narrow = 4;
+    REFUSED(pusmarke_data(&q, list, 4, NARROW_LIMIT, 1), PUSMARKE_LARGE_FILE_SEGMENT_NOT_SUPPORTED);
+    q.progress = 4294967296u;
+    REFUSED(pusmarke_data(&q, list, 4, 0, 1), PUSMARKE_BAD_STORE);
+    HOLDS(record_is(q, 4294967296u, 2, 4, 0));
+    HOLDS(record_is(r, 300, 2, 0, 0));
+    SAME(holes, list);
+    {
+        uint64_t apart[4] = {150, 200, 100, 120};
+        const uint64_t still[4] = {150, 200, 100, 120};
+        REFUSED(pusmarke_data(&r, apart, 4, 0, 1), PUSMARKE_NOT_COALESCED);
+        REFUSED(pusmarke_metadata(&r, apart, 4), PUSMARKE_NOT_COALESCED);
+        SAME(still, apart);
+    }
+    ACCEPTED(pusmarke_data(&r, list, 4, 90, 120), 1, 0, 0);
+    HOLDS(record_is(r, 300, 0, 0, 0));
+    SAME(none, list);
+
+    /* no list at all */
+    r = pusmarke_fresh(0);
+    REFUSED(pusmarke_data(&r, NULL, 0, 0, 1), PUSMARKE_STORE_FULL);
+    ACCEPTED(pusmarke_metadata(&r, NULL, 0), 0, 0, 0);
+    ACCEPTED(pusmarke_data(&r, NULL, 0, 0, 1), 1, 0, 0);
+    HOLDS(record_is(r, 1, 0, 0, 0));
+}
+
+static const struct pusmarke_identity identity = {1, 1, 1, 7, 2};
+
+/* Document 01's example packet. */
+static const uint8_t example[32] = {0x28, 0x00, 0x19, 0x00, 0x01, 0x07, 0x02, 0x08, 0x00, 0x00, 0x00, 0x00, 0x00, 0x00, 0x03, 0xe8,
+    0x00, 0x00, 0x00, 0x00, 0x00, 0x00, 0x00, 0x00, 0x00, 0x00, 0x00, 0x64, 0x00, 0x00, 0x00, 0xc8};
+
+static void writing(void) {
+    const uint64_t requests[4] = {0, 0, 100, 200};
+    const uint64_t twice[4] = {0, 0, 0, 0};
+    const uint64_t turned[2] = {200, 100};
+    const uint64_t huge[2] = {0, 4294967296u};
+    struct pusmarke_identity bad = identity;
+    uint8_t buf[32], kept[32];
+
+    memset(buf, 0xaa, sizeof buf);
+    memcpy(kept, buf, sizeof buf);
+    REFUSED(pusmarke_write(identity, 0, 0, 1000, requests, 3, buf, 32), PUSMARKE_BAD_STORE);
+    REFUSED(pusmarke_write(identity, 0, 0, 1000, long_list, 2 * PAIRS, buf, 32), PUSMARKE_BAD_STORE);
+    bad.entity_length = 0;
+    REFUSED(pusmarke_write(bad, 0, 0, 1000, requests, 4, buf, 32), PUSMARKE_BAD_IDENTITY);
+    bad.entity_length = SIZE_MAX;
+    REFUSED(pusmarke_write(bad, 0, 0, 1000, requests, 4, buf, 32), PUSMARKE_BAD_IDENTITY);
+    bad = identity;
+    bad.number = 256;
+    REFUSED(pusmarke_write(bad, 0, 0, 1000, requests, 4, buf, 32), PUSMARKE_BAD_IDENTITY);
+    REFUSED(pusmarke_write(identity, 0, 1000, 0, requests, 4, buf, 32), PUSMARKE_SCOPE_REVERSED);
+    CARRIES(pusmarke_write(identity, 0, 0, 1000, turned, 2, buf, 32), PUSMARKE_START_LARGER_THAN_END, 200, 100);
+    REFUSED(pusmarke_write(identity, 0, 0, 1000, twice, 4, buf, 32), PUSMARKE_EMPTY_SEGMENT);
+    REFUSED(pusmarke_write(identity, 0, 0, 1000, huge, 2, buf, 32), PUSMARKE_LARGE_SEGMENT_FOR_NORMAL_FILE_SIZE);
+    CARRIES(pusmarke_write(identity, 0, 0, 1000, requests, 4, buf, 31), PUSMARKE_BUFFER_SIZE_MISSMATCH, 32, 31);
+    CARRIES(pusmarke_write(identity, 0, 0, 1000, NULL, 0, NULL, 0), PUSMARKE_BUFFER_SIZE_MISSMATCH, 16, 0);
+    {
+        /* 511 requests make a PDU of 4,104 octets */
+        static uint64_t many[2 * 511];
+        size_t i;
+        for (i = 0; i < 511; i++) {
+            many[2 * i] = 2 * i;
+            many[2 * i + 1] = 2 * i + 1;
+        }
+        REFUSED(pusmarke_write(identity, 0, 0, 2000, many, 2 * 511, large_buffer, 4104), PUSMARKE_PDU_SIZE);
+        CARRIES(pusmarke_write(identity, 0, 0, 2000, many, 2 * 510, buf, 32), PUSMARKE_BUFFER_SIZE_MISSMATCH, 4096, 32);
+    }
+    SAME(kept, buf);
+    ACCEPTED(pusmarke_write(identity, 0, 0, 1000, requests, 4, buf, 32), 32, 0, 0);
+    SAME(example, buf);
+}
+
+static int nothing_read(struct pusmarke_nak n, uint64_t refusal, uint64_t start, uint64_t end, size_t length) {
+    return n.refusal == refusal && n.start == start && n.end == end && n.identity.entity_length == 0
+        && n.identity.number_length == 0 && n.identity.source == 0 && n.identity.number == 0 && n.identity.destination == 0
+        && n.large == 0 && n.scope_start == 0 && n.scope_end == 0 && n.from == 0 && n.to == 0 && n.next == length;
+}
+
+/* The example with one octet changed. */
+static struct pusmarke_nak damaged(size_t at, uint8_t octet) {
+    uint8_t packet[32];
+    memcpy(packet, example, sizeof packet);
+    packet[at] = octet;
+    return pusmarke_read(packet, sizeof packet);
+}
+
+static int step_is(struct pusmarke_step s, uint64_t found, uint64_t start, uint64_t end, size_t at) {
+    return s.found == found && s.start == start && s.end == end && s.at == at;
+}
+
+static void reading(void) {
+    struct pusmarke_nak n = pusmarke_read(example, sizeof example);
+    uint8_t packet[32];
+
+    HOLDS(n.refusal == 0 && n.start == 0 && n.end == 0 && n.large == 0 && n.scope_start == 0 && n.scope_end == 1000);
+    HOLDS(n.identity.entity_length == 1 && n.identity.number_length == 1 && n.identity.source == 1 && n.identity.number == 7
+        && n.identity.destination == 2);
+    HOLDS(n.from == 16 && n.to == 32 && n.next == 16);
+    HOLDS(step_is(pusmarke_next(example, 32, 16), 1, 0, 0, 24));
+    HOLDS(step_is(pusmarke_next(example, 32, 24), 1, 100, 200, 32));
+    HOLDS(step_is(pusmarke_next(example, 32, 32), 0, 0, 0, 32));
+    HOLDS(step_is(pusmarke_next(example, 32, 25), 0, 0, 0, 25));
+    HOLDS(step_is(pusmarke_next(example, 32, SIZE_MAX), 0, 0, 0, SIZE_MAX));
+    HOLDS(step_is(pusmarke_next(NULL, 0, 0), 0, 0, 0, 0));
+
+    HOLDS(nothing_read(pusmarke_read(NULL, 0), PUSMARKE_LENGTH_MISMATCH, 0, 0, 0));
+    HOLDS(nothing_read(pusmarke_read(example, 3), PUSMARKE_LENGTH_MISMATCH, 0, 0, 3));
+    HOLDS(nothing_read(pusmarke_read(example, 31), PUSMARKE_LENGTH_MISMATCH, 0, 0, 31));
+    HOLDS(nothing_read(damaged(0, 0x20), PUSMARKE_BAD_HEADER, 0, 0, 32));
+    HOLDS(nothing_read(damaged(3, 0x08), PUSMARKE_BAD_HEADER, 0, 0, 32));
+    HOLDS(nothing_read(damaged(2, 0x18), PUSMARKE_LENGTH_MISMATCH, 0, 0, 32));
+    HOLDS(nothing_read(damaged(7, 0x09), PUSMARKE_NOT_NAK, 0, 0, 32));
+    HOLDS(nothing_read(damaged(8, 0x01), PUSMARKE_SCOPE_REVERSED, 0, 0, 32));
+    HOLDS(nothing_read(damaged(19, 0x01), PUSMARKE_START_LARGER_THAN_END, 1, 0, 32));
+    HOLDS(nothing_read(damaged(31, 0x64), PUSMARKE_EMPTY_SEGMENT, 0, 0, 32));
+    /* a data field of one octet less */
+    memcpy(packet, example, sizeof packet);
+    packet[2] = 0x18;
+    HOLDS(nothing_read(pusmarke_read(packet, 31), PUSMARKE_LENGTH_MISMATCH, 0, 0, 31));
+    /* 511 requests: a fine PDU but for its length */
+    memcpy(large_buffer, example, 16);
+    large_buffer[1] = 0x10;
+    large_buffer[2] = 0x01;
+    {
+        size_t i;
+        for (i = 0; i < 511; i++) {
+            memcpy(large_buffer + 16 + 8 * i, example + 24, 8);
+        }
+    }
+    HOLDS(nothing_read(pusmarke_read(large_buffer, 4104), PUSMARKE_PDU_SIZE, 0, 0, 4104));
+}
+
+static void sequence(void) {
+    const uint64_t list[4] = {100, 120, 150, 200};
+    const uint64_t apart[4] = {150, 200, 100, 120};
+    const uint64_t huge[2] = {0, 4294967296u};
+    struct pusmarke_reception r = {300, 2, 0, 0}, q;
+    struct pusmarke_identity bad = identity;
+    uint8_t buf[64], kept[64];
+    const uint8_t both[32] = {0x28, 0, 0x19, 0, 1, 7, 2, 8, 0, 0, 0, 0, 0, 0, 0x01, 0x2c, 0, 0, 0, 100, 0, 0, 0, 120, 0, 0, 0, 150, 0, 0, 0,
+        200};
+    const uint8_t each[48] = {0x28, 0, 0x11, 0, 1, 7, 2, 8, 0, 0, 0, 0, 0, 0, 0, 120, 0, 0, 0, 100, 0, 0, 0, 120, 0x28, 0, 0x11, 0, 1, 7, 2, 8,
+        0, 0, 0, 120, 0, 0, 0x01, 0x2c, 0, 0, 0, 150, 0, 0, 0, 200};
+
+    memset(buf, 0xaa, sizeof buf);
+    memcpy(kept, buf, sizeof buf);
+    REFUSED(pusmarke_nak_sequence(r, list, 3, identity, 0, 32, 0, 2, buf, 64), PUSMARKE_BAD_STORE);
+    q = r;
+    q.missing = 3;
+    REFUSED(pusmarke_nak_sequence(q, list, 4, identity, 0, 32, 0, 2, buf, 64), PUSMARKE_BAD_STORE);
+    q = r;
+    q.count = SIZE_MAX;
+    REFUSED(pusmarke_nak_sequence(q, list, 4, identity, 0, 32, 0, 2, buf, 64), PUSMARKE_BAD_STORE);
+    REFUSED(pusmarke_nak_sequence(r, apart, 4, identity, 0, 32, 0, 2, buf, 64), PUSMARKE_NOT_COALESCED);
+    q = r;
+    q.progress = 199;
+    REFUSED(pusmarke_nak_sequence(q, list, 4, identity, 0, 32, 0, 2, buf, 64), PUSMARKE_SCOPE_BELOW_LIST);
+    bad.number_length = 9;
+    REFUSED(pusmarke_nak_sequence(r, list, 4, bad, 0, 32, 0, 2, buf, 64), PUSMARKE_BAD_IDENTITY);
+    REFUSED(pusmarke_nak_sequence(r, list, 4, identity, 0, 23, 0, 2, buf, 64), PUSMARKE_PDU_SIZE);
+    REFUSED(pusmarke_nak_sequence(r, list, 4, identity, 0, SIZE_MAX, 0, 2, buf, 64), PUSMARKE_PDU_SIZE);
+    q.progress = 4294967296u;
+    q.count = 1;
+    REFUSED(pusmarke_nak_sequence(q, huge, 2, identity, 0, 32, 0, 2, buf, 64), PUSMARKE_LARGE_SEGMENT_FOR_NORMAL_FILE_SIZE);
+    REFUSED(pusmarke_nak_sequence(r, list, 4, identity, 0, 32, 3, 2, buf, 64), PUSMARKE_BAD_CURSOR);
+    REFUSED(pusmarke_nak_sequence(r, list, 4, identity, 0, 32, 0, 17, buf, 64), PUSMARKE_BUDGET_TOO_LARGE);
+    CARRIES(pusmarke_nak_sequence(r, list, 4, identity, 0, 32, 0, 2, buf, 63), PUSMARKE_BUFFER_SIZE_MISSMATCH, 64, 63);
+    CARRIES(pusmarke_nak_sequence(r, list, 4, identity, 0, 32, 0, 2, NULL, 0), PUSMARKE_BUFFER_SIZE_MISSMATCH, 64, 0);
+    ACCEPTED(pusmarke_nak_sequence(r, list, 4, identity, 0, 32, 1, 0, NULL, 0), 0, 0, 1);
+    SAME(kept, buf);
+
+    ACCEPTED(pusmarke_nak_sequence(r, list, 4, identity, 0, 32, 0, 2, buf, 64), 1, 32, 2);
+    HOLDS(memcmp(buf, both, 32) == 0 && memcmp(buf + 32, kept + 32, 32) == 0);
+    ACCEPTED(pusmarke_nak_sequence(r, list, 4, identity, 0, 24, 0, 2, buf, 64), 2, 48, 2);
+    HOLDS(memcmp(buf, each, 48) == 0 && memcmp(buf + 48, kept + 48, 16) == 0);
+    ACCEPTED(pusmarke_nak_sequence(r, list, 4, identity, 0, 24, 0, 1, buf, 64), 1, 24, 1);
+    ACCEPTED(pusmarke_nak_sequence(r, list, 4, identity, 0, 24, 1, 1, buf, 64), 1, 24, 2);
+    HOLDS(memcmp(buf, each + 24, 24) == 0);
+    ACCEPTED(pusmarke_nak_sequence(r, list, 4, identity, 0, 24, 2, 1, buf, 64), 0, 0, 2);
+    /* nothing known and nothing noticed: metadata alone is asked for */
+    ACCEPTED(pusmarke_nak_sequence(pusmarke_fresh(0), NULL, 0, identity, 8, 47, 0, 1, buf, 64), 1, 40, 1);
+}
+
+/* A pass: what comes with holes is asked for until nothing is missing. */
+static void transfer(void) {
+    uint64_t list[32] = {0};
+    struct pusmarke_reception r = pusmarke_fresh(1);
+    static uint8_t buf[16 * 48];
+    unsigned rounds = 0;
+
+    ACCEPTED(pusmarke_data(&r, list, 32, 0, 64), 0, 0, 0);
+    for (;;) {
+        size_t cursor = 0, sent = 0, place;
+        for (;;) {
+            struct pusmarke_answer a = pusmarke_nak_sequence(r, list, 32, identity, 0, 48, cursor, 4, buf, sizeof buf);
+            HOLDS(a.refusal == 0);
+            if (a.refusal != 0 || a.first == 0) {
+                break;
+            }
+            cursor = (size_t)a.third;
+            sent += (size_t)a.first;
+            /* each PDU is read back, and each request is answered */
+            for (place = 0; place < a.second;) {
+                size_t length = (size_t)7 + buf[place + 1] * 256u + buf[place + 2];
+                struct pusmarke_nak n = pusmarke_read(buf + place, length);
+                struct pusmarke_step s = pusmarke_next(buf + place, length, n.next);
+                HOLDS(n.refusal == 0);
+                while (s.found) {
+                    if (s.start == 0 && s.end == 0) {
+                        ACCEPTED(pusmarke_metadata(&r, list, 32), 0, 0, 0);
+                        cursor = 0;
+                    } else {
+                        HOLDS(pusmarke_data(&r, list, 32, s.start, s.end - s.start).refusal == 0);
+                        cursor = 0;
+                    }
+                    s = pusmarke_next(buf + place, length, s.at);
+                }
+                place += length;
+            }
+            if (rounds == 0) {
+                /* more data comes, with holes */
+                uint64_t i;
+                for (i = 0; i < 8; i++) {
+                    HOLDS(pusmarke_data(&r, list, 32, 100 + 20 * i, 10).refusal == 0);
+                }
+                rounds = 1;
+            }
+        }
+        if (sent == 0) {
+            break;
+        }
+    }
+    HOLDS(record_is(r, 250, 0, 1, 0));
+}
+
+int main(void) {
+    store();
+    events();
+    writing();
+    reading();
+    sequence();
+    transfer();
+    printf("%u checks, %u wrong\n", checks, wrong);
+    return wrong == 0 ? 0 : 1;
+}

@@ -1,0 +1,190 @@
+/* Pusmarke: the store of lost segments, the reception events and the NAK PDUs of a CFDP receiver (CCSDS 727.0-B-5).
+ *
+ * Link libpusmarke_c.a (x86-64 Linux). No function allocates, keeps a pointer after it returns, or has a state of its own.
+ *
+ * A slice is two arguments, a pointer and a length in elements (uint64_t of a list, octets of a buffer or packet). The pointer may
+ * be null exactly where the length is 0. What one call is lent for writing must not overlap anything else it is lent.
+ *
+ * A list is flat: start and end of a range by turns. A range is the offsets from its start up to, not including, its end. A store is
+ * the first `count` pairs of a list; its capacity is the list's length in pairs, 4,096 at most. A store is narrow where `narrow` is
+ * not 0: then no number of it is above 4,294,967,295. The large file flag is set where `large` is not 0: then an offset in a PDU has
+ * F = 8 octets, else 4.
+ *
+ * Every number may have any value: what does not fit is refused by number. A refused call changes nothing that it is lent.
+ * Refusals are looked for in the order in which each function lists them. */
+#ifndef PUSMARKE_H
+#define PUSMARKE_H
+
+#include <stddef.h>
+#include <stdint.h>
+
+#ifdef __cplusplus
+extern "C" {
+#endif
+
+/* The numbers of the refusals. */
+enum pusmarke_refusal {
+    PUSMARKE_ACCEPTED = 0,
+    PUSMARKE_STORE_FULL = 1,
+    PUSMARKE_EMPTY_SEGMENT = 2,
+    PUSMARKE_START_LARGER_THAN_END = 3, /* first, second: start, end */
+    PUSMARKE_LARGE_FILE_SEGMENT_NOT_SUPPORTED = 4,
+    PUSMARKE_INVALID_SEGMENT_BOUNDARY = 5, /* first, second: start, end, as asked for */
+    PUSMARKE_BUFFER_SIZE_MISSMATCH = 6, /* first, second: octets needed, octets given */
+    PUSMARKE_LARGE_SEGMENT_FOR_NORMAL_FILE_SIZE = 7,
+    PUSMARKE_NOT_COALESCED = 8,
+    PUSMARKE_RANGE_TOO_LONG = 9,
+    PUSMARKE_BAD_STORE = 10,
+    PUSMARKE_BAD_CURSOR = 11,
+    PUSMARKE_SCOPE_BELOW_LIST = 12,
+    PUSMARKE_BAD_IDENTITY = 13,
+    PUSMARKE_PDU_SIZE = 14,
+    PUSMARKE_BAD_HEADER = 15,
+    PUSMARKE_LENGTH_MISMATCH = 16,
+    PUSMARKE_NOT_NAK = 17,
+    PUSMARKE_SCOPE_REVERSED = 18,
+    PUSMARKE_ALREADY_KNOWN = 19,
+    PUSMARKE_BUDGET_TOO_LARGE = 20
+};
+
+/* What a call answers: 0 or the refusal's number, and its values in order, 0 where there is none. */
+struct pusmarke_answer {
+    uint64_t refusal;
+    uint64_t first;
+    uint64_t second;
+    uint64_t third;
+};
+
+/* The record of one reception, which the caller keeps beside its list. Of narrow and missing, 0 is no and any other number is yes. */
+struct pusmarke_reception {
+    uint64_t progress; /* the offset behind the furthest octet noticed or kept */
+    size_t count;      /* the counted pairs of the list */
+    uint64_t narrow;
+    uint64_t missing;  /* whether metadata is missing */
+};
+
+/* Source and destination entity, of entity_length octets each, and the transaction's sequence number, of number_length octets. */
+struct pusmarke_identity {
+    size_t entity_length;
+    size_t number_length;
+    uint64_t source;
+    uint64_t number;
+    uint64_t destination;
+};
+
+/* What pusmarke_read hands back. */
+struct pusmarke_nak {
+    uint64_t refusal; /* 0 or the refusal's number */
+    uint64_t start;   /* what refusal 3 carries */
+    uint64_t end;
+    struct pusmarke_identity identity;
+    uint64_t large;   /* 0 or 1 */
+    uint64_t scope_start;
+    uint64_t scope_end;
+    size_t from;      /* the octets of the requests: from `from` up to, not including, `to` */
+    size_t to;
+    size_t next;      /* where pusmarke_next starts */
+};
+
+/* What pusmarke_next hands back. */
+struct pusmarke_step {
+    uint64_t found; /* 1: a request, (start, end); 0: the end */
+    uint64_t start;
+    uint64_t end;
+    size_t at;      /* the place after it */
+};
+
+/* Refusal 10 of a store: a list of odd length or of more than 4,096 pairs, a count above the capacity, or, where the store is
+ * narrow, a counted number above 4,294,967,295.
+ *
+ * After an accepted change, slots from the new count up to the old one hold (0, 0); slots past both keep their contents. */
+
+/* Puts (start, end) behind the counted pairs, without looking for overlap.
+ * Accepted: first is the new count.
+ * Refusals: 10; 2 start equals end; 3 start above end; 4 narrow, and either number above 4,294,967,295; 1 count equals capacity. */
+struct pusmarke_answer pusmarke_add(uint64_t *list, size_t list_length, size_t count, uint64_t narrow, uint64_t start,
+    uint64_t end);
+
+/* Takes the offsets of (start, end) out of a coalesced list: each pair nonempty, each start above the end before it.
+ * Accepted: first is 1 and second the new count where (start, end) lies inside one pair: the whole pair, a part of it or its middle
+ * leaves. First is 0 where it shares no offset with any pair, and nothing changes.
+ * Refusals: 10; 4 narrow, and either number above 4,294,967,295; 2 start equals end; 3 start above end; 8 list not coalesced; 5
+ * (start, end) shares an offset with some pair and lies inside none; 1 a split, and count equals capacity. */
+struct pusmarke_answer pusmarke_remove(uint64_t *list, size_t list_length, size_t count, uint64_t narrow, uint64_t start,
+    uint64_t end);
+
+/* Drops the counted pairs with an end at most their start, and leaves the maximal runs of the others, ascending.
+ * Accepted: first is the new count. Refusals: 10. */
+struct pusmarke_answer pusmarke_coalesce(uint64_t *list, size_t list_length, size_t count, uint64_t narrow);
+
+/* Whether some counted pair (s, e) has start at least s and end at most e. (start, end) is not checked.
+ * Accepted: first is 1 for yes and 0 for no. Refusals: 10. */
+struct pusmarke_answer pusmarke_segment_in_store(const uint64_t *list, size_t list_length, size_t count, uint64_t narrow,
+    uint64_t start, uint64_t end);
+
+/* Writes the counted pairs as the segment requests of a NAK PDU: start and end, F octets each, big-endian.
+ * Accepted: first is the octets written, all of the buffer.
+ * Refusals: 10; 6 buffer length is not count times 2F; 7 normal flag, and a counted number above 4,294,967,295. */
+struct pusmarke_answer pusmarke_write_segments_to_bytes(const uint64_t *list, size_t list_length, size_t count, uint64_t narrow,
+    uint64_t large, uint8_t *buffer, size_t buffer_length);
+
+/* A fresh record: progress 0, count 0, metadata missing, and narrow as handed over. */
+struct pusmarke_reception pusmarke_fresh(uint64_t narrow);
+
+/* Refusals of a record, in this order: 10 as above, or narrow with a progress above 4,294,967,295, or metadata missing and a list
+ * that is not exactly (0, progress), empty at progress 0; 8 list not coalesced; 12 the last end above progress. */
+
+/* The data event: `length` octets came at `offset`. `record` is never null.
+ * While metadata is missing the range is noticed, not kept: the list is (0, progress). Else the range is kept: its offsets leave the
+ * list, and offsets from progress up to `offset` become missing. In both, progress becomes the larger of itself and the range's end.
+ * Accepted: first is 0 for noticed and 1 for kept. Count and progress of the record change where they lie; narrow and missing stay.
+ * Refusals: those of a record; 2 length 0; 9 offset + length above 2^64 - 1; 4 narrow, and the end above 4,294,967,295; 1 the list
+ * would have more pairs than the capacity. The caller does not file the octets of a refused event. */
+struct pusmarke_answer pusmarke_data(struct pusmarke_reception *record, uint64_t *list, size_t list_length, uint64_t offset,
+    uint64_t length);
+
+/* The metadata event. `record` is never null. Accepted: missing becomes 0; all else stays.
+ * Refusals: those of a record; 19 metadata is known. */
+struct pusmarke_answer pusmarke_metadata(struct pusmarke_reception *record, const uint64_t *list, size_t list_length);
+
+/* Refusal 13: an identifier length outside 1 to 8, or a number that does not fit its length. The header has
+ * H = 4 + 2 * entity_length + number_length octets. A request (0, 0) asks for metadata, and may stand only first. */
+
+/* Writes one NAK PDU of this identity, scope and flat list of requests, which may be empty.
+ * Accepted: first is the octets written, all of the buffer: H + 1 + 2F and 2F for each request.
+ * Refusals: 10 a list of odd length or of more than 4,096 pairs; 13; 18 scope start above scope end; then request by request, 3 start
+ * above end or 2 start equals end and not a first (0, 0); 7 normal flag, and a number of the scope or of a request above
+ * 4,294,967,295; 14 the PDU above 4,096 octets; 6 the buffer is not exactly as long as the PDU. */
+struct pusmarke_answer pusmarke_write(struct pusmarke_identity identity, uint64_t large, uint64_t scope_start, uint64_t scope_end,
+    const uint64_t *requests, size_t requests_length, uint8_t *buffer, size_t buffer_length);
+
+/* Reads one NAK PDU.
+ * Accepted: what it says. Its requests are the packet's own octets from `from` up to `to`.
+ * Refused: the number, what refusal 3 carries, `next` the packet's length, and all else 0.
+ * Refusals: 16 below 4 octets; 15 a fixed bit of octets 0 and 3 wrong; 16 the packet is not H octets and its length field's, or that is
+ * 0; 17 directive code not 8; 16 the data field is not 1 + 2F octets and whole requests; 18 scope start above scope end; then request
+ * by request, 3 and 2 as in pusmarke_write; 14 above 4,096 octets. */
+struct pusmarke_nak pusmarke_read(const uint8_t *packet, size_t packet_length);
+
+/* The request at a place of a packet, and the place behind it. Start at `next` of pusmarke_read and go on at `at`, until the end is
+ * found: fewer than 2F octets from the place to the packet's end, F by the flag in octet 0. At the end `at` stays. Any octets and any place
+ * are fine. */
+struct pusmarke_step pusmarke_next(const uint8_t *packet, size_t packet_length, size_t at);
+
+/* The NAK sequence: PDUs of at most `largest` octets that ask for all that is missing, at most `budget` of them, back to back.
+ * The entries are (0, 0) if metadata is missing, then the list. A PDU takes the next k of them, k = (largest - H - 1 - 2F) / 2F rounded
+ * down. The first call has cursor 0, each later one the cursor that the last one gave; at the end the cursor is the number of entries,
+ * and no PDU is written.
+ * Accepted: first is the PDUs, second the octets written, third the new cursor. Octets behind those written stay.
+ * Refusals: those of a record; 13; 14 largest above 4,096 or below H + 1 + 4F, room for one request; 7 normal flag, and progress or a
+ * counted number above 4,294,967,295; 11 cursor above the number of entries; 20 budget above 16; 6 the buffer is shorter than budget
+ * times largest, which is the number needed. */
+struct pusmarke_answer pusmarke_nak_sequence(struct pusmarke_reception record, const uint64_t *list, size_t list_length,
+    struct pusmarke_identity identity, uint64_t large, size_t largest, size_t cursor, size_t budget, uint8_t *buffer,
+    size_t buffer_length);
+
+#ifdef __cplusplus
+}
+#endif
+
+#endif

@@ -1,0 +1,110 @@
+//! The functions of host/include/pusmarke.h. `tests/header.rs` compares the two files.
+//!
+//! Safety of every call: a function asks only that a pointer and the length behind it are a slice's, that what is lent for writing is
+//! lent to nobody else, and that a record's pointer is valid. References and slices of Rust give all of that.
+
+#[repr(C)]
+pub(crate) struct Answer {
+    pub refusal: u64,
+    pub first: u64,
+    pub second: u64,
+    pub third: u64,
+}
+
+#[repr(C)]
+#[derive(Clone, Copy, Debug)]
+pub(crate) struct Record {
+    pub progress: u64,
+    pub count: usize,
+    pub narrow: u64,
+    pub missing: u64,
+}
+
+/// Whose transaction a NAK PDU is about.
+#[repr(C)]
+#[derive(Clone, Copy, Debug, PartialEq, Eq)]
+pub struct Identity {
+    /// The octets of an entity identifier, 1 to 8.
+    pub entity_length: usize,
+    /// The octets of the sequence number, 1 to 8.
+    pub number_length: usize,
+    /// The source entity.
+    pub source: u64,
+    /// The transaction's sequence number.
+    pub number: u64,
+    /// The destination entity.
+    pub destination: u64,
+}
+
+#[repr(C)]
+#[derive(Clone, Copy, Debug)]
+pub(crate) struct Nak {
+    pub refusal: u64,
+    pub start: u64,
+    pub end: u64,
+    pub identity: Identity,
+    pub large: u64,
+    pub scope_start: u64,
+    pub scope_end: u64,
+    pub from: usize,
+    pub to: usize,
+    pub next: usize,
+}
+
+#[repr(C)]
+pub(crate) struct Step {
+    pub found: u64,
+    pub start: u64,
+    pub end: u64,
+    pub at: usize,
+}
+
+extern "C" {
+    pub(crate) fn pusmarke_add(list: *mut u64, list_length: usize, count: usize, narrow: u64, start: u64, end: u64) -> Answer;
+    pub(crate) fn pusmarke_remove(list: *mut u64, list_length: usize, count: usize, narrow: u64, start: u64, end: u64) -> Answer;
+    pub(crate) fn pusmarke_coalesce(list: *mut u64, list_length: usize, count: usize, narrow: u64) -> Answer;
+    pub(crate) fn pusmarke_segment_in_store(
+        list: *const u64,
+        list_length: usize,
+        count: usize,
+        narrow: u64,
+        start: u64,
+        end: u64,
+    ) -> Answer;
+    pub(crate) fn pusmarke_write_segments_to_bytes(
+        list: *const u64,
+        list_length: usize,
+        count: usize,
+        narrow: u64,
+        large: u64,
+        buffer: *mut u8,
+        buffer_length: usize,
+    ) -> Answer;
+    pub(crate) fn pusmarke_fresh(narrow: u64) -> Record;
+    pub(crate) fn pusmarke_data(record: *mut Record, list: *mut u64, list_length: usize, offset: u64, length: u64) -> Answer;
+    pub(crate) fn pusmarke_metadata(record: *mut Record, list: *const u64, list_length: usize) -> Answer;
+    pub(crate) fn pusmarke_write(
+        identity: Identity,
+        large: u64,
+        scope_start: u64,
+        scope_end: u64,
+        requests: *const u64,
+        requests_length: usize,
+        buffer: *mut u8,
+        buffer_length: usize,
+    ) -> Answer;
+    pub(crate) fn pusmarke_read(packet: *const u8, packet_length: usize) -> Nak;
+    pub(crate) fn pusmarke_next(packet: *const u8, packet_length: usize, at: usize) -> Step;
+    pub(crate) fn pusmarke_nak_sequence(
+        record: Record,
+        list: *const u64,
+        list_length: usize,
+        identity: Identity,
+        large: u64,
+        largest: usize,
+        cursor: usize,
+        budget: usize,
+        buffer: *mut u8,
+        buffer_length: usize,
+    ) -> Answer;
+}

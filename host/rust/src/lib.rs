@@ -1,0 +1,24 @@
+//! Safe wrappers around Pusmarke, the proved core of a CFDP receiver (CCSDS 727.0-B-5).
+//!
+//! [`Store`] is the store of lost segments over a list that the caller lends, with the methods of cfdp-rs's `LostSegmentStore`.
+//! [`Reception`] keeps such a list by what comes. [`NakSequence`] writes the NAK PDUs that ask for what is missing, [`write_nak`]
+//! writes one, and [`NakReader`] reads one. What does not fit is refused: [`Refusal`] says why, and nothing lent changes.
+//!
+//! The crate allocates nothing, has no dependency and does not panic. The work is done by `libpusmarke_c.a`, whose functions are
+//! proved; the wrappers here are not.
+#![no_std]
+#![deny(missing_docs)]
+
+mod ffi;
+mod nak;
+mod reception;
+mod refusal;
+mod sequence;
+mod store;
+
+pub use ffi::Identity;
+pub use nak::{write_nak, FileFlag, NakReader};
+pub use reception::{Data, Reception};
+pub use refusal::Refusal;
+pub use sequence::{NakSequence, Sent};
+pub use store::{Segments, Store, Width};

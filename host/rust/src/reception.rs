@@ -1,0 +1,65 @@
+//! The reception of one file.
+use crate::{ffi, store, FileFlag, Identity, NakSequence, Refusal, Segments, Width};
+
+/// What became of the data of an accepted event.
+#[derive(Clone, Copy, Debug, PartialEq, Eq)]
+pub enum Data {
+    /// Metadata is missing: the range was noticed, and the octets cannot be filed yet.
+    Noticed,
+    /// The octets are to be filed.
+    Kept,
+}
+
+/// The reception of one file: how far it has come, and what is missing below that, in a list that the caller lends.
+#[derive(Debug)]
+pub struct Reception<'a> {
+    record: ffi::Record,
+    list: &'a mut [u64],
+    width: Width,
+}
+
+impl<'a> Reception<'a> {
+    /// A fresh reception: nothing has come, and metadata is missing. Refused: a list of odd length or of more than 4,096 pairs.
+    pub fn new(list: &'a mut [u64], width: Width) -> Result<Self, Refusal> {
+        store::check(list, 0, width)?;
+        let record = unsafe { ffi::pusmarke_fresh(width.mark()) };
+        Ok(Reception { record, list, width })
+    }
+
+    /// `length` octets of file data came at `offset`. Refused: 2, 9, 4 and 1; the octets of a refused event are not filed.
+    pub fn data(&mut self, offset: u64, length: u64) -> Result<Data, Refusal> {
+        let answer = unsafe { ffi::pusmarke_data(&mut self.record, self.list.as_mut_ptr(), self.list.len(), offset, length) };
+        Ok(if answer.accepted()?.first == 0 { Data::Noticed } else { Data::Kept })
+    }
+
+    /// Metadata came. Refused: 19, where it is known already.
+    pub fn metadata(&mut self) -> Result<(), Refusal> {
+        let answer = unsafe { ffi::pusmarke_metadata(&mut self.record, self.list.as_ptr(), self.list.len()) };
+        answer.accepted().map(|_| ())
+    }
+
+    /// The offset behind the furthest octet that was noticed or kept.
+    pub fn progress(&self) -> u64 {
+        self.record.progress
+    }
+
+    /// Whether metadata is missing.
+    pub fn is_metadata_missing(&self) -> bool {
+        self.record.missing != 0
+    }
+
+    /// Which numbers the list holds.
+    pub fn width(&self) -> Width {
+        self.width
+    }
+
+    /// The ranges that are missing below progress, ascending.
+    pub fn segments(&self) -> Segments<'_> {
+        Segments::of(self.list, self.record.count)
+    }
+
+    /// The NAK PDUs, of at most `largest` octets each, that ask for all that is missing.
+    pub fn nak_sequence(&self, identity: Identity, file_flag: FileFlag, largest: usize) -> NakSequence<'_> {
+        NakSequence::of(self.record, self.list, identity, file_flag, largest)
+    }
+}

@@ -1,0 +1,118 @@
+//! The declarations of src/ffi.rs are those of host/include/pusmarke.h: functions with their argument types in order, and structs with
+//! their fields.
+use std::{collections::BTreeMap, fs, path::Path};
+
+fn text(path: &str) -> String {
+    fs::read_to_string(Path::new(env!("CARGO_MANIFEST_DIR")).join(path)).unwrap()
+}
+
+/// C's text without its comments.
+fn bare(text: &str) -> String {
+    let mut out = String::new();
+    let mut rest = text;
+    while let Some((before, behind)) = rest.split_once("/*") {
+        out.push_str(before);
+        rest = behind.split_once("*/").unwrap().1;
+    }
+    out + rest
+}
+
+/// A declaration of C without its name, as Rust says it: `const uint8_t *packet` is `*const u8`.
+fn from_c(declaration: &str) -> String {
+    let at = declaration.rfind([' ', '*']).unwrap() + 1;
+    let (before, _) = declaration.split_at(at);
+    let pointer = before.contains('*');
+    let constant = before.contains("const ");
+    let name = before.replace("const ", "").replace('*', "");
+    let name = match name.trim() {
+        "uint64_t" => "u64",
+        "uint8_t" => "u8",
+        "size_t" => "usize",
+        "struct pusmarke_answer" => "Answer",
+        "struct pusmarke_reception" => "Record",
+        "struct pusmarke_identity" => "Identity",
+        "struct pusmarke_nak" => "Nak",
+        "struct pusmarke_step" => "Step",
+        other => panic!("a type of C's that is not known here: {other}"),
+    };
+    match (pointer, constant) {
+        (false, _) => name.to_string(),
+        (true, true) => format!("*const {name}"),
+        (true, false) => format!("*mut {name}"),
+    }
+}
+
+/// Each declared function of the header: its argument types in order, and then what it returns.
+fn functions_of_c(text: &str) -> BTreeMap<String, Vec<String>> {
+    let mut all = BTreeMap::new();
+    for statement in text.split(';') {
+        let Some((before, behind)) = statement.split_once('(') else { continue };
+        let head = before.rsplit(['}', '{', '#']).next().unwrap().trim();
+        let Some((result, name)) = head.rsplit_once(' ') else { continue };
+        if !name.starts_with("pusmarke_") {
+            continue;
+        }
+        let list = behind.trim_end().trim_end_matches(')');
+        let mut types: Vec<String> = list.split(',').map(|a| from_c(a.trim())).collect();
+        types.push(from_c(&format!("{result} x")));
+        all.insert(name.to_string(), types);
+    }
+    all
+}
+
+fn functions_of_rust(text: &str) -> BTreeMap<String, Vec<String>> {
+    let block = text.split_once("extern \"C\" {").unwrap().1.split_once("\n}").unwrap().0;
+    let mut all = BTreeMap::new();
+    for statement in block.split(';').filter(|s| s.contains("fn ")) {
+        let (name, behind) = statement.split_once("fn ").unwrap().1.split_once('(').unwrap();
+        let (list, result) = behind.split_once(')').unwrap();
+        let mut types: Vec<String> = list.split(',').filter_map(|a| a.split_once(':')).map(|(_, t)| t.trim().to_string()).collect();
+        types.push(result.trim().trim_start_matches("->").trim().to_string());
+        all.insert(name.to_string(), types);
+    }
+    all
+}
+
+/// The fields of a struct, each with its type, in order.
+fn fields_of_c(text: &str, name: &str) -> Vec<(String, String)> {
+    let body = text.split_once(&format!("struct {name} {{")).unwrap().1.split_once('}').unwrap().0;
+    body.split(';')
+        .map(str::trim)
+        .filter(|f| !f.is_empty())
+        .map(|f| (f.rsplit_once(' ').unwrap().1.to_string(), from_c(f)))
+        .collect()
+}
+
+fn fields_of_rust(text: &str, name: &str) -> Vec<(String, String)> {
+    let body = text.split_once(&format!("struct {name} {{")).unwrap().1.split_once("\n}").unwrap().0;
+    body.lines()
+        .filter_map(|l| l.trim().strip_prefix("pub "))
+        .map(|l| l.trim_end_matches(',').split_once(": ").unwrap())
+        .map(|(f, t)| (f.to_string(), t.to_string()))
+        .collect()
+}
+
+#[test]
+fn functions() {
+    let c = functions_of_c(&bare(&text("../include/pusmarke.h")));
+    let rust = functions_of_rust(&text("src/ffi.rs"));
+    assert_eq!(c.len(), 12);
+    assert_eq!(c, rust);
+}
+
+#[test]
+fn structs() {
+    let c = bare(&text("../include/pusmarke.h"));
+    let rust = text("src/ffi.rs");
+    for (a, b) in [
+        ("pusmarke_answer", "Answer"),
+        ("pusmarke_reception", "Record"),
+        ("pusmarke_identity", "Identity"),
+        ("pusmarke_nak", "Nak"),
+        ("pusmarke_step", "Step"),
+    ] {
+        let fields = fields_of_c(&c, a);
+        assert!(fields.len() >= 4);
+        assert_eq!(fields, fields_of_rust(&rust, b), "{a}");
+    }
+}

@@ -1,0 +1,97 @@
+//! Reception, the NAK sequence and the reader: document 01's examples, and a pass until nothing is missing.
+use pusmarke::{write_nak, Data, FileFlag, Identity, NakReader, Reception, Refusal, Width};
+
+const IDENTITY: Identity = Identity { entity_length: 1, number_length: 1, source: 1, number: 7, destination: 2 };
+
+const EXAMPLE: [u8; 32] = [
+    0x28, 0x00, 0x19, 0x00, 0x01, 0x07, 0x02, 0x08, 0x00, 0x00, 0x00, 0x00, 0x00, 0x00, 0x03, 0xE8, 0x00, 0x00, 0x00, 0x00, 0x00,
+    0x00, 0x00, 0x00, 0x00, 0x00, 0x00, 0x64, 0x00, 0x00, 0x00, 0xC8,
+];
+
+#[test]
+fn example_packet() {
+    let mut buf = [0; 32];
+    assert_eq!(write_nak(IDENTITY, FileFlag::Normal, (0, 1000), &[0, 0, 100, 200], &mut buf), Ok(32));
+    assert_eq!(buf, EXAMPLE);
+    let mut reader = NakReader::read(&EXAMPLE).unwrap();
+    assert_eq!((reader.identity(), reader.file_flag(), reader.scope()), (IDENTITY, FileFlag::Normal, (0, 1000)));
+    assert_eq!(reader.request_octets(), &EXAMPLE[16..]);
+    assert_eq!((reader.next(), reader.next(), reader.next(), reader.next()), (Some((0, 0)), Some((100, 200)), None, None));
+}
+
+#[test]
+fn damaged_packets() {
+    let with = |at: usize, octet: u8| {
+        let mut packet = EXAMPLE;
+        packet[at] = octet;
+        NakReader::read(&packet).map(|_| ()).unwrap_err()
+    };
+    assert_eq!(with(0, 0x20), Refusal::BadHeader);
+    assert_eq!(with(2, 0x18), Refusal::LengthMismatch);
+    assert_eq!(with(7, 0x09), Refusal::NotNak);
+    assert_eq!(with(8, 0x01), Refusal::ScopeReversed);
+    assert_eq!(with(19, 0x01), Refusal::StartLargerThanEnd(1, 0));
+    assert_eq!(with(31, 0x64), Refusal::EmptySegment);
+    assert_eq!(NakReader::read(&[]).unwrap_err(), Refusal::LengthMismatch);
+}
+
+#[test]
+fn events() {
+    let mut list = [0; 4];
+    let mut reception = Reception::new(&mut list, Width::Wide).unwrap();
+    assert_eq!(reception.data(50, 10), Ok(Data::Noticed));
+    assert_eq!(reception.segments().collect::<Vec<_>>(), [(0, 60)]);
+    assert_eq!((reception.metadata(), reception.metadata()), (Ok(()), Err(Refusal::AlreadyKnown)));
+    assert_eq!(reception.data(70, 10), Ok(Data::Kept));
+    assert_eq!(reception.segments().collect::<Vec<_>>(), [(0, 70)]);
+    assert_eq!((reception.progress(), reception.is_metadata_missing(), reception.width()), (80, false, Width::Wide));
+    assert_eq!(reception.data(u64::MAX, 1), Err(Refusal::RangeTooLong));
+    assert_eq!(reception.data(0, 0), Err(Refusal::EmptySegment));
+}
+
+#[test]
+fn sequence_refuses() {
+    let mut list = [0; 4];
+    let reception = Reception::new(&mut list, Width::Wide).unwrap();
+    let mut buf = [0; 64];
+    let mut write = |identity, largest, budget| {
+        reception.nak_sequence(identity, FileFlag::Normal, largest).write(budget, &mut buf).unwrap_err()
+    };
+    assert_eq!(write(Identity { entity_length: 0, ..IDENTITY }, 32, 1), Refusal::BadIdentity);
+    assert_eq!(write(IDENTITY, 23, 1), Refusal::PduSize);
+    assert_eq!(write(IDENTITY, 32, 17), Refusal::BudgetTooLarge);
+    assert_eq!(write(IDENTITY, 32, 3), Refusal::BufferSizeMissmatch { expected: 96, actual: 64 });
+    let beyond = reception.nak_sequence(IDENTITY, FileFlag::Normal, 32).at(2).write(1, &mut buf);
+    assert_eq!(beyond, Err(Refusal::BadCursor));
+}
+
+#[test]
+fn pass() {
+    let mut list = [0; 64];
+    let mut reception = Reception::new(&mut list, Width::Narrow).unwrap();
+    reception.metadata().unwrap();
+    for i in 0..20 {
+        assert_eq!(reception.data(100 * i + 50, 50), Ok(Data::Kept));
+    }
+    // Every PDU, two at a time; then what they ask for comes.
+    let mut buf = [0; 2 * 40];
+    let mut asked = Vec::new();
+    let mut sequence = reception.nak_sequence(IDENTITY, FileFlag::Normal, 40);
+    loop {
+        let sent = sequence.write(2, &mut buf).unwrap();
+        if sent.pdus == 0 {
+            break;
+        }
+        let mut rest = &buf[..sent.octets];
+        while !rest.is_empty() {
+            let (pdu, behind) = rest.split_at(7 + usize::from(rest[1]) * 256 + usize::from(rest[2]));
+            asked.extend(NakReader::read(pdu).unwrap());
+            rest = behind;
+        }
+    }
+    assert_eq!((sequence.cursor(), asked.len()), (20, 20));
+    for (start, end) in asked {
+        reception.data(start, end - start).unwrap();
+    }
+    assert_eq!((reception.segments().len(), reception.progress()), (0, 2000));
+}
