@@ -1,6 +1,7 @@
 // Makes the same calls on the port and on the Rust, checks that both answered the same, and sets marks
 // around each for count.c. Prints a line NAME;LENGTH;SIDES for each case, in the order of the marks; the
-// empty pair of marks comes first. With the argument `time`: NAME;LENGTH;SIDES;NS.. (medians) instead.
+// empty pair of marks comes first. With the argument `narrow` the port's stores are narrow. With `time`
+// the lines are NAME;LENGTH;SIDES;NS.., the medians of timed rounds.
 #include <stdint.h>
 #include <stdio.h>
 #include <stdlib.h>
@@ -59,6 +60,7 @@ __attribute__((noipa)) void mark_start(void) { __asm__ volatile("" ::: "memory")
 __attribute__((noipa)) void mark_stop(void) { __asm__ volatile("" ::: "memory"); }
 
 static int timing, turned;
+static uint64_t narrow;
 static uint64_t times[2][ROUNDS];
 static int rounds[2];
 
@@ -202,13 +204,14 @@ static void sort(size_t n)
     same(memcmp(list, other, sizeof list) == 0, "sort");
 }
 
-// Add and the split give a list of n ranges, since 4,096 is the most; the others start from n.
+// Add, the split and data that opens a hole give a list of n ranges, since 4,096 is the most; the others
+// start from n.
 static void add(size_t n)
 {
     uint64_t s = start_of(n - 1), e = end_of(n - 1);
     ascending(n - 1);
     begin();
-    BOTH(answer = pusmarke_add(list, NUMBERS, count, 0, s, e), said = rust_add(store, s, e));
+    BOTH(answer = pusmarke_add(list, NUMBERS, count, narrow, s, e), said = rust_add(store, s, e));
     same(said == 0, "answer");
     end(answer.first);
 }
@@ -217,7 +220,7 @@ static void remove_from(size_t n, uint64_t s, uint64_t e, uint64_t yes)
 {
     ascending(n);
     begin();
-    BOTH(answer = pusmarke_remove(list, NUMBERS, count, 0, s, e), said = rust_remove(store, s, e));
+    BOTH(answer = pusmarke_remove(list, NUMBERS, count, narrow, s, e), said = rust_remove(store, s, e));
     same(said == yes && answer.first == yes, "answer");
     end(yes ? answer.second : count);
 }
@@ -232,7 +235,7 @@ static void coalesce(size_t n, void (*fill)(size_t))
 {
     fill(n);
     begin();
-    BOTH(answer = pusmarke_coalesce(list, NUMBERS, count, 0), said = rust_coalesce(store));
+    BOTH(answer = pusmarke_coalesce(list, NUMBERS, count, narrow), said = rust_coalesce(store));
     same(said == 0, "answer");
     end(answer.first);
 }
@@ -245,7 +248,7 @@ static void in_store(size_t n, uint64_t s, uint64_t e, uint64_t yes)
 {
     ascending(n);
     begin();
-    BOTH(answer = pusmarke_segment_in_store(list, NUMBERS, count, 0, s, e),
+    BOTH(answer = pusmarke_segment_in_store(list, NUMBERS, count, narrow, s, e),
          said = rust_segment_in_store(store, s, e));
     same(said == yes && answer.first == yes, "answer");
     end(count);
@@ -263,7 +266,7 @@ static void write_octets(size_t n, uint64_t large)
     memset(others, 0x5a, sizeof others);
     ascending(n);
     begin();
-    BOTH(answer = pusmarke_write_segments_to_bytes(list, NUMBERS, count, 0, large, octets, needed),
+    BOTH(answer = pusmarke_write_segments_to_bytes(list, NUMBERS, count, narrow, large, octets, needed),
          said = rust_write_segments_to_bytes(store, large, others, needed));
     same(said == needed && answer.first == needed, "answer");
     same(memcmp(octets, others, sizeof octets) == 0, "octets");
@@ -273,14 +276,14 @@ static void write_octets(size_t n, uint64_t large)
 static void write_normal(size_t n) { write_octets(n, 0); }
 static void write_large(size_t n) { write_octets(n, 1); }
 
-// Data at `offset` when n ranges are missing and progress stands at the end of the last but one octet more.
-static void data_event(size_t n, size_t ranges, uint64_t offset, uint64_t octets_of_data)
+// Data when n ranges are missing and progress stands a little behind the last of them.
+static uint64_t progress_of(size_t n) { return end_of(n - 1) + 5; }
+
+static void data_event(size_t n, uint64_t offset, uint64_t octets_of_data)
 {
-    (void)n;
-    uint64_t progress = end_of(ranges - 1) + 5;
-    struct pusmarke_reception record = { progress, ranges, 0, 0 };
-    ascending(ranges);
-    void *handler = rust_handler(list, ranges, progress, LARGEST);
+    struct pusmarke_reception record = { progress_of(n), n, narrow, 0 };
+    ascending(n);
+    void *handler = rust_handler(list, n, record.progress, LARGEST);
     BOTH(answer = pusmarke_data(&record, list, NUMBERS, offset, octets_of_data),
          said = rust_data(handler, offset, data, octets_of_data));
     size_t left = rust_handler_list(handler, other);
@@ -290,9 +293,9 @@ static void data_event(size_t n, size_t ranges, uint64_t offset, uint64_t octets
     rust_handler_free(handler);
 }
 
-static void data_in_order(size_t n) { data_event(n, n, end_of(n - 1) + 5, 1000); }
-static void data_fills(size_t n) { data_event(n, n, start_of(n / 2), end_of(n / 2) - start_of(n / 2)); }
-static void data_opens(size_t n) { data_event(n, n - 1, end_of(n - 2) + 105, 1000); }
+static void data_in_order(size_t n) { data_event(n, progress_of(n), 1000); }
+static void data_opens(size_t n) { data_event(n - 1, progress_of(n - 1) + 100, 1000); }
+static void data_fills(size_t n) { data_event(n, start_of(n / 2), end_of(n / 2) - start_of(n / 2)); }
 
 static const struct pusmarke_identity identity = { 1, 1, 1, 7, 2 };
 
@@ -316,11 +319,11 @@ static uint64_t port_sequence(struct pusmarke_reception record)
 
 static void sequence(size_t n)
 {
-    uint64_t progress = end_of(n - 1), pdus = 0;
-    struct pusmarke_reception record = { progress, n, 0, 0 };
+    uint64_t pdus = 0;
+    struct pusmarke_reception record = { end_of(n - 1), n, narrow, 0 };
     memset(octets, 0x5a, sizeof octets);
     ascending(n);
-    void *handler = rust_handler(list, n, progress, LARGEST);
+    void *handler = rust_handler(list, n, record.progress, LARGEST);
     BOTH(pdus = port_sequence(record), said = rust_sequence(handler));
     same(pdus == said, "PDUs");
     same(rust_sent(handler, others) == answer.second && memcmp(octets, others, answer.second) == 0, "octets");
@@ -348,7 +351,7 @@ static uint64_t port_read(size_t total)
 
 static void read_pdu(size_t n)
 {
-    struct pusmarke_reception record = { end_of(n - 1), n, 0, 0 };
+    struct pusmarke_reception record = { end_of(n - 1), n, narrow, 0 };
     uint64_t found = 0;
     ascending(n);
     port_sequence(record);
@@ -415,6 +418,7 @@ static void run(const char *called, enum sides sides, void (*call)(size_t), size
 int main(int argc, char **argv)
 {
     timing = argc == 2 && strcmp(argv[1], "time") == 0;
+    narrow = argc == 2 && strcmp(argv[1], "narrow") == 0;
     run("empty", C, empty, 0);
     for (size_t c = 0; c < sizeof cases / sizeof *cases; c++)
         for (size_t i = 0; i < sizeof lengths / sizeof *lengths; i++)
