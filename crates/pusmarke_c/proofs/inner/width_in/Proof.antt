@@ -1,0 +1,17 @@
+-- `inner::width_in` meets its contract.
+use mathlib.Core.Path.{sym, _∙_}
+use borrow.Author.Needs.{needs}
+use Rattle.pusmarke_c.proofs.inner.width_in.Statement.{statement}
+use Rattle.pusmarke_c.proofs.inner.width_in.Tie as tie
+
+is-set-requires : tie.Need-is-set-requires
+is-set-requires c κs = search needs
+
+returns : tie.Need-returns
+returns c = simp (sym (c .before .is-set .ensures) ∙ c .if1 .taken)
+
+returns-2 : tie.Need-returns-2
+returns-2 c = simp (sym (c .before .is-set .ensures) ∙ c .if1 .left)
+
+pub width-in-spec : {M : Type 1} → statement M
+width-in-spec = tie.close (tie.spec is-set-requires returns returns-2)

@@ -1,0 +1,22 @@
+-- `pdu::pusmarke_read` meets its contract: it says of C's numbers what the call that it wraps says of its own types.
+use mathlib.Core.Path.{ap}
+use borrow.Author.Needs.{needs}
+use Rattle.pusmarke_c.specs.Answer.{nakOut}
+use Rattle.pusmarke_c.proofs.pdu.pusmarke_read.Statement.{statement}
+use Rattle.pusmarke_c.proofs.pdu.pusmarke_read.Tie as tie
+
+parse-requires : tie.Need-parse-requires
+parse-requires c κs = search needs
+
+identity-out-requires : tie.Need-identity-out-requires
+identity-out-requires c κs = search needs
+
+flag-out-requires : tie.Need-flag-out-requires
+flag-out-requires c κs = search needs
+
+returns : tie.Need-returns
+returns c = rw (c .flag-out .ensures, c .before .identity-out .ensures) (ap nakOut (c .before .before .before .parse .ensures))
+
+pub pusmarke-read-spec : {M : Type 1} → statement M
+pusmarke-read-spec =
+    tie.close (tie.spec parse-requires identity-out-requires flag-out-requires returns)

@@ -1,0 +1,90 @@
+-- What C is handed back.
+use Prim.Native.Nat.{ℕ}
+use mathlib.Core.Bool.{Bool, cond}
+use mathlib.Core.List.{List, [], _∷_}
+use lib.ListN.{getD}
+use Rattle.ranges.specs.Outcome.{Outcome}
+use Rattle.octets.specs.declared.LargeFileFlag.{LargeFileFlag}
+use Rattle.octets.specs.declared.LargeFileFlag.the-variants.{Normal, Large}
+use Rattle.reception.specs.declared.Reception.{Reception}
+use Rattle.nak.specs.declared.Identity.{Identity}
+use Rattle.nak_parser.specs.declared.Parsed.{Parsed}
+use Rattle.pusmarke_c.specs.declared.PusmarkeAnswer.{PusmarkeAnswer}
+use Rattle.pusmarke_c.specs.declared.PusmarkeReception.{PusmarkeReception}
+use Rattle.pusmarke_c.specs.declared.PusmarkeIdentity.{PusmarkeIdentity}
+use Rattle.pusmarke_c.specs.declared.PusmarkeNak.{PusmarkeNak}
+use Rattle.pusmarke_c.specs.declared.PusmarkeStep.{PusmarkeStep}
+
+-- An outcome in four numbers: 0 or the refusal's number, then the values in order, 0 where there is none. No outcome has more
+-- than three values.
+abbrev pub answerOf : Outcome → PusmarkeAnswer
+answerOf o =
+    record {
+      refusal = o .number;
+      first = getD (o .values) 0 0;
+      second = getD (o .values) 1 0;
+      third = getD (o .values) 2 0;
+    }
+
+-- A mark: 1 is yes, 0 is no.
+abbrev pub markOf : Bool → ℕ
+markOf on = cond on 1 0
+
+-- A record as C's, with the number `narrow` for its width.
+abbrev pub recordOut : ℕ → Reception → PusmarkeReception
+recordOut narrow rec =
+    record { progress = rec .progress; count = rec .count; narrow = narrow; missing = markOf (rec .missing) }
+
+-- C's record after a data event that leaves the record `new`: its progress and count. Narrow and missing stay as handed over.
+abbrev pub advancedTo : Reception → PusmarkeReception → PusmarkeReception
+advancedTo new rec =
+    record { progress = new .progress; count = new .count; narrow = rec .narrow; missing = rec .missing }
+
+-- C's mark after a metadata event: as handed over while metadata is missing, and then 0.
+abbrev pub markAfter : ℕ → Bool → ℕ
+markAfter missing still = cond still missing 0
+
+-- C's record after a metadata event that leaves the record `new`: only the mark may change.
+abbrev pub markedBy : Reception → PusmarkeReception → PusmarkeReception
+markedBy new rec =
+    record { progress = rec .progress; count = rec .count; narrow = rec .narrow; missing = markAfter (rec .missing) (new .missing) }
+
+-- The large file flag: 0 is normal, 1 is large.
+abbrev pub flagOut : LargeFileFlag → ℕ
+flagOut Normal = 0
+flagOut Large = 1
+
+abbrev pub identityOut : Identity → PusmarkeIdentity
+identityOut d =
+    record {
+      «entity_length» = d .«entity_length»;
+      «number_length» = d .«number_length»;
+      source = d .source;
+      number = d .number;
+      destination = d .destination;
+    }
+
+-- What reading hands back, field by field.
+abbrev pub nakOut : Parsed → PusmarkeNak
+nakOut p =
+    record {
+      refusal = p .refusal;
+      start = p .start;
+      end = p .end;
+      identity = identityOut (p .identity);
+      large = flagOut (p .flag);
+      «scope_start» = p .«scope_start»;
+      «scope_end» = p .«scope_end»;
+      from = p .from;
+      to = p .to;
+      next = p .next;
+    }
+
+-- 1 where a step has a request to give, and 0 where it has none.
+abbrev pub foundIn : List ℕ → ℕ
+foundIn [] = 0
+foundIn (_ ∷ _) = 1
+
+-- A step's outcome, which is a request's start and end or nothing, and the place after it.
+abbrev pub stepOut : Outcome → ℕ → PusmarkeStep
+stepOut o at = record { found = foundIn (o .values); start = getD (o .values) 0 0; end = getD (o .values) 1 0; at = at }

@@ -1,0 +1,41 @@
+-- What the numbers that C hands over stand for.
+use Prim.Native.Nat.{ℕ}
+use mathlib.Core.Bool.{Bool, not, cond}
+use lib.Dec.{eqb}
+use Rattle.ranges.specs.declared.Width.{Width}
+use Rattle.ranges.specs.declared.Width.the-variants.{Wide, Narrow}
+use Rattle.octets.specs.declared.LargeFileFlag.{LargeFileFlag}
+use Rattle.octets.specs.declared.LargeFileFlag.the-variants.{Normal, Large}
+use Rattle.lost_segments.specs.declared.Store.{Store}
+use Rattle.reception.specs.declared.Reception.{Reception}
+use Rattle.reception.specs.Record.{recordOf}
+use Rattle.nak.specs.declared.Identity.{Identity}
+use Rattle.pusmarke_c.specs.declared.PusmarkeReception.{PusmarkeReception}
+use Rattle.pusmarke_c.specs.declared.PusmarkeIdentity.{PusmarkeIdentity}
+
+-- A mark: 0 is no, any other number is yes.
+abbrev pub isSet : ℕ → Bool
+isSet mark = not (eqb mark 0)
+
+abbrev pub widthIn : ℕ → Width
+widthIn narrow = cond (isSet narrow) Narrow Wide
+
+abbrev pub flagIn : ℕ → LargeFileFlag
+flagIn large = cond (isSet large) Large Normal
+
+-- The store with this count and width.
+abbrev pub storeOf : ℕ → ℕ → Store
+storeOf count narrow = record { count = count; width = widthIn narrow }
+
+abbrev pub recordIn : PusmarkeReception → Reception
+recordIn rec = recordOf (rec .progress) (rec .count) (widthIn (rec .narrow)) (isSet (rec .missing))
+
+abbrev pub identityIn : PusmarkeIdentity → Identity
+identityIn d =
+    record {
+      «entity_length» = d .«entity_length»;
+      «number_length» = d .«number_length»;
+      source = d .source;
+      number = d .number;
+      destination = d .destination;
+    }
