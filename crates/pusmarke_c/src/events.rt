@@ -1,10 +1,10 @@
 // The reception events on a record that C keeps.
 ghost use mathlib.Core.Path.{_≡_};
-ghost use Rattle.reception.specs.Record.{recordOf, freshRecord};
+ghost use Rattle.reception.specs.Record.{freshRecord};
 ghost use Rattle.reception.specs.Data.{dataCase, dataOutcome, dataRecord, dataList};
 ghost use Rattle.reception.specs.Metadata.{metadataCase, metadataOutcome, metadataRecord};
-ghost use Rattle.pusmarke_c.specs.Input.{widthIn, isSet, recordIn};
-ghost use Rattle.pusmarke_c.specs.Answer.{answerOf, recordOut, advancedTo, markedBy, markAfter};
+ghost use Rattle.pusmarke_c.specs.Input.{widthIn, recordIn};
+ghost use Rattle.pusmarke_c.specs.Answer.{answerOf, numbers, recordOut, advancedTo, markAfter, markedBy};
 use crate::PusmarkeAnswer;
 use crate::PusmarkeReception;
 use crate::inner::bare;
@@ -50,24 +50,23 @@ fn of_data(a: DataAnswer) -> PusmarkeAnswer
 // What a data event leaves: the answer, and the numbers of the record that it may change.
 pub struct DataNumbers {
     pub answer: PusmarkeAnswer,
-    pub progress: u64,
     pub count: usize,
+    pub progress: u64,
 }
 
 // The data event on the numbers of C's record.
 fn data_numbers(
     list: &mut [u64],
-    progress: u64,
     count: usize,
+    progress: u64,
     narrow: u64,
     missing: u64,
     offset: u64,
     length: u64,
 ) -> DataNumbers
-    ensures { λ r. ⌜ (r .answer ≡ answerOf (dataOutcome (recordOf progress count (widthIn narrow) (isSet missing)) (now (list .entry)) offset length))
-        × ((r .progress ≡ dataRecord (recordOf progress count (widthIn narrow) (isSet missing)) (now (list .entry)) offset length .progress)
-        × ((r .count ≡ dataRecord (recordOf progress count (widthIn narrow) (isSet missing)) (now (list .entry)) offset length .count)
-        × (now (list .exit) ≡ dataList (recordOf progress count (widthIn narrow) (isSet missing)) (now (list .entry)) offset length))) ⌝ }
+    ensures { λ r. ⌜ (r .answer ≡ answerOf (dataOutcome (recordIn (numbers progress count narrow missing)) (now (list .entry)) offset length))
+        × ((numbers (r .progress) (r .count) narrow missing ≡ advancedTo (dataRecord (recordIn (numbers progress count narrow missing)) (now (list .entry)) offset length) (numbers progress count narrow missing))
+        × (now (list .exit) ≡ dataList (recordIn (numbers progress count narrow missing)) (now (list .entry)) offset length)) ⌝ }
 {
     let s = data_core(
         list,
@@ -82,9 +81,31 @@ fn data_numbers(
     let answer = of_data(case);
     DataNumbers {
         answer,
-        progress: s.progress,
         count: s.count,
+        progress: s.progress,
     }
+}
+
+// The data event: count and progress of the record change where they lie; narrow and missing stay as handed over.
+#[no_mangle]
+pub extern "C" fn pusmarke_data(
+    rec: &mut PusmarkeReception,
+    list: &mut [u64],
+    offset: u64,
+    length: u64,
+) -> PusmarkeAnswer
+    ensures { λ r. ⌜ (r ≡ answerOf (dataOutcome (recordIn (now (rec .entry))) (now (list .entry)) offset length))
+        × ((now (rec .exit) ≡ advancedTo (dataRecord (recordIn (now (rec .entry))) (now (list .entry)) offset length) (now (rec .entry)))
+        × (now (list .exit) ≡ dataList (recordIn (now (rec .entry))) (now (list .entry)) offset length)) ⌝ }
+{
+    let count = rec.count;
+    let progress = rec.progress;
+    let narrow = rec.narrow;
+    let missing = rec.missing;
+    let s = data_numbers(list, count, progress, narrow, missing, offset, length);
+    rec.count = s.count;
+    rec.progress = s.progress;
+    s.answer
 }
 
 fn of_metadata(a: MetadataAnswer) -> PusmarkeAnswer
@@ -115,13 +136,13 @@ fn mark_after(missing: u64, still: bool) -> u64
 // The metadata event on the numbers of C's record.
 fn metadata_mark(
     list: &[u64],
-    progress: u64,
     count: usize,
+    progress: u64,
     narrow: u64,
     missing: u64,
 ) -> MetadataMark
-    ensures { λ r. ⌜ (r .answer ≡ answerOf (metadataOutcome (recordOf progress count (widthIn narrow) (isSet missing)) (now (list .entry))))
-        × (r .missing ≡ markAfter missing (metadataRecord (recordOf progress count (widthIn narrow) (isSet missing)) (now (list .entry)) .missing)) ⌝ }
+    ensures { λ r. ⌜ (r .answer ≡ answerOf (metadataOutcome (recordIn (numbers progress count narrow missing)) (now (list .entry))))
+        × (numbers progress count narrow (r .missing) ≡ markedBy (metadataRecord (recordIn (numbers progress count narrow missing)) (now (list .entry))) (numbers progress count narrow missing)) ⌝ }
 {
     let s = metadata_core(list, count, progress, width_in(narrow), is_set(missing));
     let case = s.answer;
@@ -131,4 +152,19 @@ fn metadata_mark(
         answer,
         missing: mark,
     }
+}
+
+// The metadata event: the mark is cleared where it lies; the list is only read.
+#[no_mangle]
+pub extern "C" fn pusmarke_metadata(rec: &mut PusmarkeReception, list: &[u64]) -> PusmarkeAnswer
+    ensures { λ r. ⌜ (r ≡ answerOf (metadataOutcome (recordIn (now (rec .entry))) (now (list .entry))))
+        × (now (rec .exit) ≡ markedBy (metadataRecord (recordIn (now (rec .entry))) (now (list .entry))) (now (rec .entry))) ⌝ }
+{
+    let count = rec.count;
+    let progress = rec.progress;
+    let narrow = rec.narrow;
+    let missing = rec.missing;
+    let s = metadata_mark(list, count, progress, narrow, missing);
+    rec.missing = s.missing;
+    s.answer
 }

@@ -2,7 +2,7 @@
 use mathlib.Core.Path.{ap, _∙_}
 use borrow.Author.Needs.{needs}
 use Rattle.reception.specs.declared.Reception.{Reception}
-use Rattle.pusmarke_c.specs.Answer.{answerOf}
+use Rattle.pusmarke_c.specs.Answer.{answerOf, numbers, advancedTo}
 use Rattle.pusmarke_c.proofs.events.data_numbers.Statement.{statement}
 use Rattle.pusmarke_c.proofs.events.data_numbers.Tie as tie
 
@@ -23,11 +23,13 @@ same-length c = search needs
 
 returns : tie.Need-returns
 returns c =
+    let args = c .before .before .before .before .before .before .before .before .args in
     let width = c .before .before .before .before .before .width-in .ensures in
     let mark = c .before .before .before .before .is-set .ensures in
-    let said = c .before .before .before .data-core .ensures in
-    let new = rw (width, mark) at (said .1 .0) in
-    (c .of-data .ensures ∙ ap answerOf (rw (width, mark) at (said .0)), (ap (λ (r : Reception). r .progress) new, (ap (λ (r : Reception). r .count) new, rw (width, mark) at (said .1 .1))))
+    let said = c .before .before .before .data-core .ensures in (
+      c .of-data .ensures ∙ ap answerOf (rw (width, mark) at (said .0)),
+      (ap (λ (new : Reception). advancedTo new (numbers (args .progress) (args .count) (args .narrow) (args .missing))) (rw (width, mark) at (said .1 .0)), rw (width, mark) at (said .1 .1)),
+    )
 
 pub data-numbers-spec : {M : Type 1} → statement M
 data-numbers-spec =

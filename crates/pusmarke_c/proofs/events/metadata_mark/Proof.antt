@@ -1,8 +1,9 @@
 -- `events::metadata_mark` meets its contract.
+use Prim.Native.Nat.{ℕ}
 use mathlib.Core.Path.{ap, _∙_}
 use borrow.Author.Needs.{needs}
 use Rattle.reception.specs.declared.Reception.{Reception}
-use Rattle.pusmarke_c.specs.Answer.{answerOf, markAfter}
+use Rattle.pusmarke_c.specs.Answer.{answerOf, numbers, markedBy}
 use Rattle.pusmarke_c.proofs.events.metadata_mark.Statement.{statement}
 use Rattle.pusmarke_c.proofs.events.metadata_mark.Tie as tie
 
@@ -23,11 +24,13 @@ mark-after-requires c κs = search needs
 
 returns : tie.Need-returns
 returns c =
+    let args = c .before .before .before .before .before .before .args in
     let width = c .before .before .before .before .width-in .ensures in
     let mark = c .before .before .before .is-set .ensures in
     let said = c .before .before .metadata-core .ensures in (
       c .before .of-metadata .ensures ∙ ap answerOf (rw (width, mark) at (said .0)),
-      c .mark-after .ensures ∙ ap (λ (r : Reception). markAfter (c .before .before .before .before .before .before .args .missing) (r .missing)) (rw (width, mark) at (said .1)),
+      ap (λ (m : ℕ). numbers (args .progress) (args .count) (args .narrow) m) (c .mark-after .ensures)
+          ∙ ap (λ (new : Reception). markedBy new (numbers (args .progress) (args .count) (args .narrow) (args .missing))) (rw (width, mark) at (said .1)),
     )
 
 pub metadata-mark-spec : {M : Type 1} → statement M
