@@ -1,0 +1,427 @@
+// Makes the same calls on the port and on the Rust, checks that both answered the same, and sets marks
+// around each for count.c. Prints a line NAME;LENGTH;SIDES for each case, in the order of the marks; the
+// empty pair of marks comes first. With the argument `narrow` the port's stores are narrow. With `time`
+// the lines are NAME;LENGTH;SIDES;NS.., the medians of timed rounds.
+#include <stdint.h>
+#include <stdio.h>
+#include <stdlib.h>
+#include <string.h>
+#include <time.h>
+
+#define CAPACITY 4096
+#define NUMBERS (2 * CAPACITY)
+#define LARGEST 1024
+#define BUDGET 16
+#define ROUNDS 101
+
+struct pusmarke_answer { uint64_t refusal, first, second, third; };
+struct pusmarke_reception { uint64_t progress; size_t count; uint64_t narrow, missing; };
+struct pusmarke_identity { size_t entity_length, number_length; uint64_t source, number, destination; };
+struct pusmarke_nak {
+    uint64_t refusal, start, end;
+    struct pusmarke_identity identity;
+    uint64_t large, scope_start, scope_end;
+    size_t from, to, next;
+};
+struct pusmarke_step { uint64_t found, start, end; size_t at; };
+
+struct pusmarke_answer pusmarke_add(uint64_t *, size_t, size_t, uint64_t, uint64_t, uint64_t);
+struct pusmarke_answer pusmarke_remove(uint64_t *, size_t, size_t, uint64_t, uint64_t, uint64_t);
+struct pusmarke_answer pusmarke_coalesce(uint64_t *, size_t, size_t, uint64_t);
+struct pusmarke_answer pusmarke_segment_in_store(const uint64_t *, size_t, size_t, uint64_t, uint64_t, uint64_t);
+struct pusmarke_answer pusmarke_write_segments_to_bytes(
+    const uint64_t *, size_t, size_t, uint64_t, uint64_t, uint8_t *, size_t);
+struct pusmarke_answer pusmarke_data(struct pusmarke_reception *, uint64_t *, size_t, uint64_t, uint64_t);
+struct pusmarke_answer pusmarke_nak_sequence(
+    struct pusmarke_reception, const uint64_t *, size_t, struct pusmarke_identity, uint64_t, size_t, size_t,
+    size_t, uint8_t *, size_t);
+struct pusmarke_nak pusmarke_read(const uint8_t *, size_t);
+struct pusmarke_step pusmarke_next(const uint8_t *, size_t, size_t);
+
+void *rust_store(const uint64_t *, size_t);
+void rust_store_free(void *);
+size_t rust_list(const void *, uint64_t *);
+uint64_t rust_add(void *, uint64_t, uint64_t);
+uint64_t rust_remove(void *, uint64_t, uint64_t);
+uint64_t rust_coalesce(void *);
+uint64_t rust_segment_in_store(const void *, uint64_t, uint64_t);
+uint64_t rust_write_segments_to_bytes(const void *, uint64_t, uint8_t *, size_t);
+void rust_sort(uint64_t *, size_t);
+void *rust_handler(const uint64_t *, size_t, uint64_t, size_t);
+void rust_handler_free(void *);
+size_t rust_handler_list(const void *, uint64_t *);
+uint64_t rust_handler_progress(const void *);
+uint64_t rust_data(void *, uint64_t, const uint8_t *, size_t);
+uint64_t rust_sequence(void *);
+size_t rust_sent(const void *, uint8_t *);
+
+// The marks: count.c knows them by name.
+__attribute__((noipa)) void mark_start(void) { __asm__ volatile("" ::: "memory"); }
+__attribute__((noipa)) void mark_stop(void) { __asm__ volatile("" ::: "memory"); }
+
+static int timing, turned;
+static uint64_t narrow;
+static uint64_t times[2][ROUNDS];
+static int rounds[2];
+
+static uint64_t now(void)
+{
+    struct timespec t;
+    if (!timing)
+        return 0;
+    clock_gettime(CLOCK_MONOTONIC, &t);
+    return (uint64_t)t.tv_sec * 1000000000 + (uint64_t)t.tv_nsec;
+}
+
+static void took(int side, uint64_t ns)
+{
+    if (timing)
+        times[side][rounds[side]++] = ns;
+}
+
+#define COUNT(side, call) \
+    do { \
+        uint64_t from_ = now(); \
+        mark_start(); \
+        call; \
+        mark_stop(); \
+        took(side, now() - from_); \
+    } while (0)
+
+// In timed runs every second round takes the Rust first: A B B A.
+#define BOTH(port, rust) \
+    do { \
+        if (turned) { \
+            COUNT(1, rust); \
+            COUNT(0, port); \
+        } else { \
+            COUNT(0, port); \
+            COUNT(1, rust); \
+        } \
+    } while (0)
+
+static const char *name;
+static size_t length;
+
+static void same(int yes, const char *what)
+{
+    if (!yes) {
+        fprintf(stderr, "%s, %zu ranges: the two sides differ: %s\n", name, length, what);
+        exit(1);
+    }
+}
+
+static uint64_t list[NUMBERS], other[NUMBERS];
+static size_t count;
+static void *store;
+static struct pusmarke_answer answer;
+static uint64_t said;
+static uint8_t octets[NUMBERS * 8], others[NUMBERS * 8], data[1000];
+
+// Range i of a coalesced list. Holes of four octets lie between.
+static uint64_t start_of(size_t i) { return 10 * i + 2; }
+static uint64_t end_of(size_t i) { return 10 * i + 8; }
+
+static void put(size_t at, size_t i)
+{
+    list[2 * at] = start_of(i);
+    list[2 * at + 1] = end_of(i);
+}
+
+static void ascending(size_t n)
+{
+    memset(list, 0, sizeof list);
+    for (size_t i = 0; i < n; i++)
+        put(i, i);
+    count = n;
+}
+
+static void reversed(size_t n)
+{
+    ascending(n);
+    for (size_t i = 0; i < n; i++)
+        put(i, n - 1 - i);
+}
+
+static void shuffled(size_t n)
+{
+    uint64_t seed = 1;
+    ascending(n);
+    for (size_t i = n - 1; i > 0; i--) {
+        seed = seed * 6364136223846793005u + 1442695040888963407u;
+        size_t j = (size_t)((seed >> 33) % (i + 1));
+        uint64_t s = list[2 * i], e = list[2 * i + 1];
+        list[2 * i] = list[2 * j];
+        list[2 * i + 1] = list[2 * j + 1];
+        list[2 * j] = s;
+        list[2 * j + 1] = e;
+    }
+}
+
+static void begin(void)
+{
+    store = rust_store(list, count);
+}
+
+// The list that the port left, with this count, is the Rust's.
+static void end(uint64_t now_counted)
+{
+    size_t n = rust_list(store, other);
+    same(answer.refusal == 0, "the port refuses");
+    same(n == now_counted && memcmp(list, other, 16 * n) == 0, "lists");
+    rust_store_free(store);
+}
+
+static void empty(size_t n)
+{
+    (void)n;
+    COUNT(0, );
+}
+
+// A plain loop over the list with one compare for each number: what one pass costs in C.
+__attribute__((noipa)) static int any_above(const uint64_t *numbers, size_t n, uint64_t top)
+{
+    for (size_t i = 0; i < n; i++)
+        if (numbers[i] > top)
+            return 1;
+    return 0;
+}
+
+static void pass(size_t n)
+{
+    int yes = 0;
+    ascending(n);
+    COUNT(0, yes = any_above(list, 2 * n, UINT64_MAX - 1));
+    same(yes == 0, "pass");
+}
+
+static void sort(size_t n)
+{
+    shuffled(n);
+    COUNT(0, rust_sort(list, n));
+    memcpy(other, list, sizeof list);
+    ascending(n);
+    same(memcmp(list, other, sizeof list) == 0, "sort");
+}
+
+// Add, the split and data that opens a hole give a list of n ranges, since 4,096 is the most; the others
+// start from n.
+static void add(size_t n)
+{
+    uint64_t s = start_of(n - 1), e = end_of(n - 1);
+    ascending(n - 1);
+    begin();
+    BOTH(answer = pusmarke_add(list, NUMBERS, count, narrow, s, e), said = rust_add(store, s, e));
+    same(said == 0, "answer");
+    end(answer.first);
+}
+
+static void remove_from(size_t n, uint64_t s, uint64_t e, uint64_t yes)
+{
+    ascending(n);
+    begin();
+    BOTH(answer = pusmarke_remove(list, NUMBERS, count, narrow, s, e), said = rust_remove(store, s, e));
+    same(said == yes && answer.first == yes, "answer");
+    end(yes ? answer.second : count);
+}
+
+static void remove_first(size_t n) { remove_from(n, start_of(0), end_of(0), 1); }
+static void remove_middle(size_t n) { remove_from(n, start_of(n / 2), end_of(n / 2), 1); }
+static void remove_last(size_t n) { remove_from(n, start_of(n - 1), end_of(n - 1), 1); }
+static void remove_split(size_t n) { remove_from(n - 1, start_of(n / 2) + 2, end_of(n / 2) - 2, 1); }
+static void remove_miss(size_t n) { remove_from(n, end_of(n / 2) + 1, end_of(n / 2) + 3, 0); }
+
+static void coalesce(size_t n, void (*fill)(size_t))
+{
+    fill(n);
+    begin();
+    BOTH(answer = pusmarke_coalesce(list, NUMBERS, count, narrow), said = rust_coalesce(store));
+    same(said == 0, "answer");
+    end(answer.first);
+}
+
+static void coalesce_ascending(size_t n) { coalesce(n, ascending); }
+static void coalesce_reversed(size_t n) { coalesce(n, reversed); }
+static void coalesce_random(size_t n) { coalesce(n, shuffled); }
+
+static void in_store(size_t n, uint64_t s, uint64_t e, uint64_t yes)
+{
+    ascending(n);
+    begin();
+    BOTH(answer = pusmarke_segment_in_store(list, NUMBERS, count, narrow, s, e),
+         said = rust_segment_in_store(store, s, e));
+    same(said == yes && answer.first == yes, "answer");
+    end(count);
+}
+
+static void in_store_first(size_t n) { in_store(n, start_of(0), end_of(0), 1); }
+static void in_store_last(size_t n) { in_store(n, start_of(n - 1), end_of(n - 1), 1); }
+static void in_store_miss(size_t n) { in_store(n, start_of(n), end_of(n), 0); }
+
+// Both buffers hold 5A before the call; neither side clears its own.
+static void write_octets(size_t n, uint64_t large)
+{
+    size_t needed = n * (large ? 16 : 8);
+    memset(octets, 0x5a, sizeof octets);
+    memset(others, 0x5a, sizeof others);
+    ascending(n);
+    begin();
+    BOTH(answer = pusmarke_write_segments_to_bytes(list, NUMBERS, count, narrow, large, octets, needed),
+         said = rust_write_segments_to_bytes(store, large, others, needed));
+    same(said == needed && answer.first == needed, "answer");
+    same(memcmp(octets, others, sizeof octets) == 0, "octets");
+    end(count);
+}
+
+static void write_normal(size_t n) { write_octets(n, 0); }
+static void write_large(size_t n) { write_octets(n, 1); }
+
+// Data when n ranges are missing and progress stands a little behind the last of them.
+static uint64_t progress_of(size_t n) { return end_of(n - 1) + 5; }
+
+static void data_event(size_t n, uint64_t offset, uint64_t octets_of_data)
+{
+    struct pusmarke_reception record = { progress_of(n), n, narrow, 0 };
+    ascending(n);
+    void *handler = rust_handler(list, n, record.progress, LARGEST);
+    BOTH(answer = pusmarke_data(&record, list, NUMBERS, offset, octets_of_data),
+         said = rust_data(handler, offset, data, octets_of_data));
+    size_t left = rust_handler_list(handler, other);
+    same(answer.refusal == 0 && answer.first == 1 && said == 0, "answer");
+    same(record.progress == rust_handler_progress(handler), "progress");
+    same(record.count == left && memcmp(list, other, 16 * left) == 0, "lists");
+    rust_handler_free(handler);
+}
+
+static void data_in_order(size_t n) { data_event(n, progress_of(n), 1000); }
+static void data_opens(size_t n) { data_event(n - 1, progress_of(n - 1) + 100, 1000); }
+static void data_fills(size_t n) { data_event(n, start_of(n / 2), end_of(n / 2) - start_of(n / 2)); }
+
+static const struct pusmarke_identity identity = { 1, 1, 1, 7, 2 };
+
+// Progress is the last end: there the Rust's last scope is document 01's.
+static uint64_t port_sequence(struct pusmarke_reception record)
+{
+    uint64_t pdus = 0, at = 0;
+    size_t cursor = 0;
+    do {
+        answer = pusmarke_nak_sequence(
+            record, list, NUMBERS, identity, 0, LARGEST, cursor, BUDGET, octets + at, BUDGET * LARGEST);
+        if (answer.refusal)
+            return 0;
+        pdus += answer.first;
+        at += answer.second;
+        cursor = answer.third;
+    } while (cursor < record.count);
+    answer.second = at;
+    return pdus;
+}
+
+static void sequence(size_t n)
+{
+    uint64_t pdus = 0;
+    struct pusmarke_reception record = { end_of(n - 1), n, narrow, 0 };
+    memset(octets, 0x5a, sizeof octets);
+    ascending(n);
+    void *handler = rust_handler(list, n, record.progress, LARGEST);
+    BOTH(pdus = port_sequence(record), said = rust_sequence(handler));
+    same(pdus == said, "PDUs");
+    same(rust_sent(handler, others) == answer.second && memcmp(octets, others, answer.second) == 0, "octets");
+    rust_handler_free(handler);
+}
+
+// Reads a packet and steps to its end; hands back the requests.
+static uint64_t port_read(size_t total)
+{
+    struct pusmarke_nak nak = pusmarke_read(octets, total);
+    size_t at = nak.next;
+    uint64_t found = 0;
+    if (nak.refusal)
+        return 0;
+    for (;;) {
+        struct pusmarke_step step = pusmarke_next(octets, total, at);
+        if (!step.found)
+            return found;
+        other[2 * found] = step.start;
+        other[2 * found + 1] = step.end;
+        found++;
+        at = step.at;
+    }
+}
+
+static void read_pdu(size_t n)
+{
+    struct pusmarke_reception record = { end_of(n - 1), n, narrow, 0 };
+    uint64_t found = 0;
+    ascending(n);
+    port_sequence(record);
+    size_t requests = n < 126 ? n : 126, total = 16 + 8 * requests;
+    COUNT(0, found = port_read(total));
+    same(found == requests && memcmp(list, other, 16 * found) == 0, "requests");
+}
+
+enum sides { C, PORT, RUST, ALL };
+static const char *side_names[] = { "C", "port", "Rust", "both" };
+
+static const struct {
+    const char *name;
+    enum sides sides;
+    void (*run)(size_t);
+} cases[] = {
+    { "one pass in C", C, pass },
+    { "sort of the Rust, random", RUST, sort },
+    { "add", ALL, add },
+    { "remove, first range", ALL, remove_first },
+    { "remove, middle range", ALL, remove_middle },
+    { "remove, last range", ALL, remove_last },
+    { "remove, split", ALL, remove_split },
+    { "remove, miss", ALL, remove_miss },
+    { "coalesce, ascending", ALL, coalesce_ascending },
+    { "coalesce, reversed", ALL, coalesce_reversed },
+    { "coalesce, random", ALL, coalesce_random },
+    { "segment_in_store, first", ALL, in_store_first },
+    { "segment_in_store, last", ALL, in_store_last },
+    { "segment_in_store, miss", ALL, in_store_miss },
+    { "write_segments_to_bytes, normal", ALL, write_normal },
+    { "write_segments_to_bytes, large", ALL, write_large },
+    { "data in order", ALL, data_in_order },
+    { "data that opens a hole", ALL, data_opens },
+    { "data that fills a hole", ALL, data_fills },
+    { "NAK sequence", ALL, sequence },
+    { "read one PDU", PORT, read_pdu },
+};
+static const size_t lengths[] = { 16, 64, 256, 1024, 4096 };
+
+static int by_size(const void *x, const void *y)
+{
+    uint64_t a = *(const uint64_t *)x, b = *(const uint64_t *)y;
+    return (a > b) - (a < b);
+}
+
+static void run(const char *called, enum sides sides, void (*call)(size_t), size_t n)
+{
+    name = called;
+    length = n;
+    rounds[0] = rounds[1] = 0;
+    for (int i = 0; i < (timing ? ROUNDS : 1); i++) {
+        turned = i % 2;
+        call(n);
+    }
+    printf("%s;%zu;%s", name, n, side_names[sides]);
+    for (int side = 0; timing && side < 2 && rounds[side]; side++) {
+        qsort(times[side], ROUNDS, sizeof times[side][0], by_size);
+        printf(";%lu", (unsigned long)times[side][ROUNDS / 2]);
+    }
+    printf("\n");
+}
+
+int main(int argc, char **argv)
+{
+    timing = argc == 2 && strcmp(argv[1], "time") == 0;
+    narrow = argc == 2 && strcmp(argv[1], "narrow") == 0;
+    run("empty", C, empty, 0);
+    for (size_t c = 0; c < sizeof cases / sizeof *cases; c++)
+        for (size_t i = 0; i < sizeof lengths / sizeof *lengths; i++)
+            run(cases[c].name, cases[c].sides, cases[c].run, lengths[i]);
+    return 0;
+}
