@@ -33,8 +33,8 @@ pub fn data(
     let done = reception::data::data_by_value(rec, &mut memory[..lent], offset, length);
     let answer = done.answer;
     let after = done.rec;
-    let a = answers::of_data(answer);
-    if a.number != 0 {
+    let a = c_answers::events::of_data(answer);
+    if a.refusal != 0 {
         return answers::show_refusal(s, a, out);
     }
     show_event(state::with_record(s, after), a.first, out)
@@ -46,8 +46,8 @@ pub fn metadata(s: State, memory: &[u64], out: &mut [u8; 65536]) -> State {
     let done = reception::metadata::metadata_by_value(rec, &memory[..lent]);
     let answer = done.answer;
     let after = done.rec;
-    let a = answers::of_metadata(answer);
-    if a.number != 0 {
+    let a = c_answers::events::of_metadata(answer);
+    if a.refusal != 0 {
         return answers::show_refusal(s, a, out);
     }
     state::says(state::with_record(s, after), out, b"known")

@@ -2,11 +2,11 @@
 ghost use Prim.Native.Nat.{_≤_};
 ghost use lib.ListN.{length};
 use crate::answers;
-use crate::answers::Answer;
 use crate::print;
 use crate::state;
 use crate::state::State;
 use crate::store::flag_of;
+use c_answers::PusmarkeAnswer;
 use nak::Identity;
 use nak_parser::Step;
 use nak_parser::inner::header_length_in;
@@ -33,7 +33,7 @@ fn write_requests(
     out: &mut [u8; 65536],
 ) -> State {
     let size = state::first_octets(buf, values[8] as usize);
-    let a = answers::of_write(nak::writer::write(
+    let a = c_answers::pdu::of_write(nak::writer::write(
         identity_of(values),
         flag_of(values[5]),
         values[6],
@@ -41,7 +41,7 @@ fn write_requests(
         requests,
         &mut buf[..size],
     ));
-    if a.number != 0 {
+    if a.refusal != 0 {
         return answers::show_refusal(s, a, out);
     }
     let at = print::text(out, s.at, b"pdu ");
@@ -94,7 +94,7 @@ fn show_requests(out: &mut [u8; 65536], at: usize, packet: &[u8], from: usize) -
 fn read_packet(s: State, packet: &[u8], out: &mut [u8; 65536]) -> State {
     let parsed = nak_parser::parse(packet);
     if parsed.refusal != 0 {
-        let a = answers::valued(parsed.refusal, parsed.start, parsed.end, 0);
+        let a = c_answers::inner::with_two(parsed.refusal, parsed.start, parsed.end);
         return answers::show_refusal(s, a, out);
     }
     let identity = parsed.identity;
@@ -146,7 +146,7 @@ fn show_pdus(s: State, octets: &[u8], pdus: u64, out: &mut [u8; 65536]) -> State
 }
 
 // The PDUs, and then how many there are, their octets and the new cursor.
-fn show_sent(s: State, octets: &[u8], a: Answer, out: &mut [u8; 65536]) -> State {
+fn show_sent(s: State, octets: &[u8], a: PusmarkeAnswer, out: &mut [u8; 65536]) -> State {
     let next = show_pdus(s, octets, a.first, out);
     let mut at = print::text(out, next.at, b"sent");
     at = print::number(out, at, a.first);
@@ -165,7 +165,7 @@ pub fn sequence(
     let lent = state::first_numbers(memory, s.length);
     let size = state::first_octets(buf, values[9] as usize);
     let rec = s.rec;
-    let a = answers::of_sequence(nak_sequence::write_nak_sequence(
+    let a = c_answers::sequence::of_sequence(nak_sequence::write_nak_sequence(
         rec,
         &memory[..lent],
         identity_of(values),
@@ -175,7 +175,7 @@ pub fn sequence(
         values[8] as usize,
         &mut buf[..size],
     ));
-    if a.number != 0 {
+    if a.refusal != 0 {
         return answers::show_refusal(s, a, out);
     }
     let octets = state::first_octets(buf, a.second as usize);

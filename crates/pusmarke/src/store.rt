@@ -24,8 +24,8 @@ fn changed(s: State, out: &mut [u8; 65536], word: &[u8], count: u64) -> State {
 
 pub fn add(s: State, memory: &mut [u64], start: u64, end: u64, out: &mut [u8; 65536]) -> State {
     let lent = state::first_numbers(memory, s.length);
-    let a = answers::of_add(store_of(s).add(&mut memory[..lent], start, end));
-    if a.number != 0 {
+    let a = c_answers::store::of_add(store_of(s).add(&mut memory[..lent], start, end));
+    if a.refusal != 0 {
         return answers::show_refusal(s, a, out);
     }
     changed(s, out, b"added", a.first)
@@ -33,8 +33,8 @@ pub fn add(s: State, memory: &mut [u64], start: u64, end: u64, out: &mut [u8; 65
 
 pub fn remove(s: State, memory: &mut [u64], start: u64, end: u64, out: &mut [u8; 65536]) -> State {
     let lent = state::first_numbers(memory, s.length);
-    let a = answers::of_remove(store_of(s).remove(&mut memory[..lent], start, end));
-    if a.number != 0 {
+    let a = c_answers::store::of_remove(store_of(s).remove(&mut memory[..lent], start, end));
+    if a.refusal != 0 {
         return answers::show_refusal(s, a, out);
     }
     if a.first == 0 {
@@ -46,8 +46,8 @@ pub fn remove(s: State, memory: &mut [u64], start: u64, end: u64, out: &mut [u8;
 
 pub fn coalesce(s: State, memory: &mut [u64], out: &mut [u8; 65536]) -> State {
     let lent = state::first_numbers(memory, s.length);
-    let a = answers::of_coalesce(store_of(s).coalesce(&mut memory[..lent]));
-    if a.number != 0 {
+    let a = c_answers::store::of_coalesce(store_of(s).coalesce(&mut memory[..lent]));
+    if a.refusal != 0 {
         return answers::show_refusal(s, a, out);
     }
     changed(s, out, b"coalesced", a.first)
@@ -55,8 +55,12 @@ pub fn coalesce(s: State, memory: &mut [u64], out: &mut [u8; 65536]) -> State {
 
 pub fn within(s: State, memory: &[u64], start: u64, end: u64, out: &mut [u8; 65536]) -> State {
     let lent = state::first_numbers(memory, s.length);
-    let a = answers::of_in_store(store_of(s).segment_in_store(&memory[..lent], start, end));
-    if a.number != 0 {
+    let a = c_answers::store::of_in_store(store_of(s).segment_in_store(
+        &memory[..lent],
+        start,
+        end,
+    ));
+    if a.refusal != 0 {
         return answers::show_refusal(s, a, out);
     }
     if a.first == 0 {
@@ -83,12 +87,12 @@ pub fn octets(
 ) -> State {
     let lent = state::first_numbers(memory, s.length);
     let n = state::first_octets(buf, length as usize);
-    let a = answers::of_segments(store_of(s).write_segments_to_bytes(
+    let a = c_answers::store::of_write(store_of(s).write_segments_to_bytes(
         &memory[..lent],
         &mut buf[..n],
         flag_of(large),
     ));
-    if a.number != 0 {
+    if a.refusal != 0 {
         return answers::show_refusal(s, a, out);
     }
     let at = print::text(out, s.at, b"octets ");
