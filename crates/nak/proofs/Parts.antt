@@ -7,6 +7,7 @@ use native.Mathlib.Nat.{mul-add, mul-assoc, mul-comm}
 use native.Mathlib.Omega.{arith}
 use lib.ListN.{length, take, drop, length-append, length-drop}
 use lib.Seq.{length-take-le}
+use Rattle.ranges.proofs.Flat.{flat-append, length-flat}
 use Rattle.ranges.specs.Range.{Range}
 use Rattle.ranges.specs.Store.{pairs, flat}
 use Rattle.octets.specs.Octets.{field, fields}
@@ -17,7 +18,7 @@ use Rattle.octets.proofs.Fields.{length-field, length-fields}
 use Rattle.nak.specs.declared.Identity.{Identity}
 use Rattle.nak.specs.Pdu.{Nak, headerOctets, identityOctets, dataOctets, dataField, header, pdu, headerLength}
 use Rattle.nak.specs.Inner.{asked, pairsFrom, entries}
-use Rattle.nak.proofs.Flat.{flat-append, flat-pairs, length-flat}
+use Rattle.nak.proofs.Flat.{flat-pairs}
 
 pub length-header : (g : LargeFileFlag) (i q n : ℕ) → length (headerOctets g i q n) ≡ 4
 unfolding headerOctets

@@ -3,6 +3,7 @@ use crate::Identity;
 use octets::LargeFileFlag;
 use octets::inner::put;
 use octets::inner::put_all;
+use ranges::inner::checks::any_above;
 ghost use mathlib.Core.Path.{_≡_};
 ghost use mathlib.Core.Bool.{_&&_, not};
 ghost use mathlib.Core.List.{_∷_};
@@ -65,20 +66,6 @@ pub fn check_requests(requests: &[u64]) -> RequestsAnswer
     RequestsAnswer::Fine
 }
 
-// Whether a number of the list is above top.
-pub fn any_above(list: &[u64], top: u64) -> bool
-    ensures { λ r. ⌜ r ≡ anyAbove top (now (list .entry)) ⌝ }
-{
-    let mut i = 0;
-    while i < list.len() {
-        if top < list[i] {
-            return true;
-        }
-        i += 1;
-    }
-    false
-}
-
 // Whether the scope or a number of the list is above top.
 pub fn any_number_above(top: u64, start: u64, end: u64, list: &[u64]) -> bool
     ensures { λ r. ⌜ r ≡ anyAbove top (start ∷ end ∷ now (list .entry)) ⌝ }
@@ -89,7 +76,7 @@ pub fn any_number_above(top: u64, start: u64, end: u64, list: &[u64]) -> bool
     if top < end {
         return true;
     }
-    any_above(list, top)
+    any_above(list, list.len(), top)
 }
 
 // 10.

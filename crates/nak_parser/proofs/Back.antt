@@ -8,6 +8,7 @@ use lib.Dec.{ltb}
 use lib.ListN.{length, getD, drop, length-append}
 use lib.Seq.{take-at, drop-at, getD-at}
 use borrow.Author.Tests.{ltb-false, le-ltb, eq-eqb, ne-eqb}
+use Rattle.ranges.proofs.Flat.{length-flat}
 use Rattle.ranges.specs.Range.{Range}
 use Rattle.ranges.specs.Store.{flat, anyAbove}
 use Rattle.ranges.specs.Outcome.{accepted}
@@ -20,7 +21,6 @@ use Rattle.octets.proofs.Largest.{largest-fits}
 use Rattle.nak.specs.Header.{wrongFixed, octet0, octet3, flagOf}
 use Rattle.nak.specs.Pdu.{Nak, nakCode, headerOctets, identityOctets, dataOctets, header, dataField, pdu}
 use Rattle.nak.specs.Inner.{GoodLengths}
-use Rattle.nak.proofs.Flat.{length-flat}
 use Rattle.nak.proofs.Parts.{length-header, length-data, length-pdu}
 use Rattle.nak.proofs.Checks.{neither, good-lengths, GoodNumbers, good-numbers, NakFine}
 use Rattle.nak_parser.specs.Parser.{octetAt, fieldAt, flagIn, fieldLengthIn, entityLengthIn, numberLengthIn, headerLengthIn, lengthField, scopeAt, requestsAt, requestsIn, identityIn, scopeIn, requestsOf, nakIn, wrongLength, wrongData, shapeOutcome, readOutcome}

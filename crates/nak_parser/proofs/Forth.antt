@@ -9,6 +9,7 @@ use lib.Dec.{eqb}
 use lib.ListN.{length, getD, take, drop, length-drop, take-append-drop}
 use lib.Seq.{drop-cons, drop-drop, length-take-le}
 use borrow.Author.Tests.{eqb-true, eqb-false, not-false}
+use Rattle.ranges.proofs.Flat.{length-flat}
 use Rattle.ranges.specs.Store.{flat}
 use Rattle.octets.specs.Octets.{field, fields, AllOctets}
 use Rattle.octets.specs.Flag.{fieldLength}
@@ -17,7 +18,6 @@ use Rattle.octets.specs.declared.LargeFileFlag.the-variants.{Normal, Large}
 use Rattle.octets.proofs.Fields.{put-got, number-below, octets-take, octets-drop}
 use Rattle.nak.specs.Header.{wrongFixed, fixedBits0, fixedBits3, octet0, octet3, flagOf, entityLengthOf, numberLengthOf}
 use Rattle.nak.specs.Pdu.{nakCode, headerOctets, identityOctets, dataOctets, dataField, pdu}
-use Rattle.nak.proofs.Flat.{length-flat}
 use Rattle.nak.proofs.Parts.{length-data}
 use Rattle.nak.proofs.Checks.{neither}
 use Rattle.nak_parser.specs.Parser.{octetAt, fieldAt, flagIn, fieldLengthIn, entityLengthIn, numberLengthIn, headerLengthIn, lengthField, scopeAt, requestsAt, requestsIn, identityIn, scopeIn, requestsOf, nakIn}

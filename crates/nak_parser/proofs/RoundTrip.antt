@@ -9,6 +9,7 @@ use native.Mathlib.Omega.{arith}
 use lib.Dec.{ltb}
 use lib.ListN.{length, drop, length-drop}
 use borrow.Author.Tests.{le-ltb, ne-eqb}
+use Rattle.ranges.proofs.Flat.{length-flat, pairs-flat}
 use Rattle.ranges.specs.Store.{pairs, flat, anyAbove}
 use Rattle.ranges.specs.Outcome.{Outcome, accepted}
 use Rattle.octets.specs.Octets.{fields, AllOctets}
@@ -19,7 +20,6 @@ use Rattle.octets.proofs.Largest.{fits-largest}
 use Rattle.nak.specs.Pdu.{Nak, pdu}
 use Rattle.nak.specs.Inner.{GoodLengths}
 use Rattle.nak.specs.Writer.{isBadList, nakOutcome, writeOutcome, written}
-use Rattle.nak.proofs.Flat.{length-flat, pairs-flat}
 use Rattle.nak.proofs.Checks.{numbersOf, GoodNumbers, not-bad-identity, NakFine, nak-of, fine-nak, write-fine, write-accepted}
 use Rattle.nak_parser.specs.declared.Parsed.{Parsed}
 use Rattle.nak_parser.specs.Parser.{requestsPart, parsedOf, acceptedParsed, flagIn, fieldLengthIn, entityLengthIn, numberLengthIn, headerLengthIn, scopeAt, requestsAt, requestsIn, identityIn, scopeIn, requestsOf, nakIn, readOutcome}

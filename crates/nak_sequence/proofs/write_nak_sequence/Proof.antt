@@ -2,12 +2,12 @@
 use native.Mathlib.Omega.{arith}
 use Prim.Native.Nat.{ℕ, _+_, _*_, _-_, _≤_}
 use mathlib.Core.Path.{_≡_, sym, ap, _∙_}
-use lib.ListN.{length, take}
+use lib.ListN.{length}
 use borrow.Author.Needs.{needs}
 use mathlib.Core.Bool.{false}
 use mathlib.Core.List.{[], _∷_}
 use native.Mathlib.Nat.{mul-le-mul-right}
-use Rattle.ranges.specs.Store.{counted, anyAbove}
+use Rattle.ranges.specs.Store.{counted}
 use Rattle.ranges.specs.Outcome.{accepted, badStore, notCoalesced, scopeBelowList, badIdentity, pduSize, largeSegmentForNormalFileSize, badCursor, budgetTooLarge, bufferSizeMissmatch}
 use Rattle.octets.specs.Flag.{fieldLength}
 use Rattle.nak.specs.Writer.{isBadIdentity}

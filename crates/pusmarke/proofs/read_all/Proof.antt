@@ -1,14 +1,9 @@
+-- `pusmarke::read_all` is safe and ends.
 use borrow.Author.Needs.{needs}
-use native.Mathlib.Omega.{arith}
-use Prim.Native.Nat.{ℕ, suc, _+_, _*_, _-_, _≤_, _<_}
-use mathlib.Core.Path.{_≡_, refl, sym, ap, _∙_}
-use lib.ListN.{length, getD, take, drop, set}
+use mathlib.Core.Path.{_≡_}
+use lib.ListN.{length}
 use Rattle.pusmarke.proofs.read_all.Statement.{statement}
 use Rattle.pusmarke.proofs.read_all.Tie as tie
-use Rattle.pusmarke.proofs.read_all.Reads as reads
-use Rattle.pusmarke.proofs.read_all.Lts as lts
-use Rattle.pusmarke.proofs.read_some.Reads as read-some-reads
-use Rattle.pusmarke.proofs.state.start.Reads as start-reads
 
 abbrev Inv-loop : tie.InvT-loop
 Inv-loop fd name line₀ memory₀ values₀ buf₀ out₀ s₀ turns₀ line memory values buf out s turns = (length line ≡ length line₀) × ((length memory ≡ length memory₀) × (length buf ≡ length buf₀))
@@ -16,59 +11,45 @@ Inv-loop fd name line₀ memory₀ values₀ buf₀ out₀ s₀ turns₀ line me
 abbrev μ-loop : tie.MeasureT-loop
 μ-loop fd name line₀ memory₀ values₀ buf₀ out₀ s₀ turns₀ line memory values buf out s turns = turns
 
--- src/main.rt:98:9
 start-requires : tie.Need-start-requires Inv-loop μ-loop
 start-requires c κs = search needs
 
--- src/main.rt:100:5
 loop-holds : tie.Need-loop-holds Inv-loop μ-loop
 loop-holds c = search needs
 
--- src/main.rt:101:13
 read-some-requires : tie.Need-read-some-requires Inv-loop μ-loop
 read-some-requires c κs = search needs
 
--- src/main.rt:105:13
 same-length : tie.Need-same-length Inv-loop μ-loop
 same-length c = search needs
 
--- src/main.rt:105:13
 same-length-2 : tie.Need-same-length-2 Inv-loop μ-loop
 same-length-2 c = search needs
 
--- src/main.rt:105:13
 same-length-3 : tie.Need-same-length-3 Inv-loop μ-loop
 same-length-3 c = search needs
 
--- src/main.rt:105:13
 returns : tie.Need-returns Inv-loop μ-loop
 returns c = search needs
 
--- src/main.rt:107:9
 sub-turns : tie.Need-sub-turns Inv-loop μ-loop
 sub-turns c = search needs
 
--- src/main.rt:100:5
 loop-less : tie.Need-loop-less Inv-loop μ-loop
 loop-less c = search needs
 
--- src/main.rt:100:5
 loop-again : tie.Need-loop-again Inv-loop μ-loop
 loop-again c = search needs
 
--- src/main.rt:89:1
 same-length-4 : tie.Need-same-length-4 Inv-loop μ-loop
 same-length-4 c = search needs
 
--- src/main.rt:89:1
 same-length-5 : tie.Need-same-length-5 Inv-loop μ-loop
 same-length-5 c = search needs
 
--- src/main.rt:89:1
 same-length-6 : tie.Need-same-length-6 Inv-loop μ-loop
 same-length-6 c = search needs
 
--- src/main.rt:89:1
 returns-2 : tie.Need-returns-2 Inv-loop μ-loop
 returns-2 c = search needs
 

@@ -1,13 +1,10 @@
+-- `pusmarke::take_octets` is safe and ends.
 use borrow.Author.Needs.{needs}
-use native.Mathlib.Omega.{arith}
-use Prim.Native.Nat.{ℕ, suc, _+_, _*_, _-_, _≤_, _<_}
-use mathlib.Core.Path.{_≡_, refl, sym, ap, _∙_}
-use lib.ListN.{length, getD, take, drop, set}
+use Prim.Native.Nat.{_-_, _≤_}
+use mathlib.Core.Path.{_≡_}
+use lib.ListN.{length}
 use Rattle.pusmarke.proofs.take_octets.Statement.{statement}
 use Rattle.pusmarke.proofs.take_octets.Tie as tie
-use Rattle.pusmarke.proofs.take_octets.Reads as reads
-use Rattle.pusmarke.proofs.take_octets.Lts as lts
-use Rattle.pusmarke.proofs.take_octet.Reads as take-octet-reads
 
 abbrev Inv-loop : tie.InvT-loop
 Inv-loop octets line₀ memory₀ values₀ buf₀ out₀ next₀ i₀ line memory values buf out next i = (i ≤ length octets) × ((length line ≡ length line₀) × ((length memory ≡ length memory₀) × (length buf ≡ length buf₀)))
@@ -15,43 +12,33 @@ Inv-loop octets line₀ memory₀ values₀ buf₀ out₀ next₀ i₀ line memo
 abbrev μ-loop : tie.MeasureT-loop
 μ-loop octets line₀ memory₀ values₀ buf₀ out₀ next₀ i₀ line memory values buf out next i = length octets - i
 
--- src/main.rt:50:5
 loop-holds : tie.Need-loop-holds Inv-loop μ-loop
 loop-holds c = search needs
 
--- src/main.rt:51:33
 shared-slice-read-take-octet : tie.Need-shared-slice-read-take-octet Inv-loop μ-loop
 shared-slice-read-take-octet c = search needs
 
--- src/main.rt:51:9
 take-octet-requires : tie.Need-take-octet-requires Inv-loop μ-loop
 take-octet-requires c κs = search needs
 
--- src/main.rt:52:9
 add-i : tie.Need-add-i Inv-loop μ-loop
 add-i c = search needs
 
--- src/main.rt:50:5
 loop-less : tie.Need-loop-less Inv-loop μ-loop
 loop-less c = search needs
 
--- src/main.rt:50:5
 loop-again : tie.Need-loop-again Inv-loop μ-loop
 loop-again c = search needs
 
--- src/main.rt:39:1
 same-length : tie.Need-same-length Inv-loop μ-loop
 same-length c = search needs
 
--- src/main.rt:39:1
 same-length-2 : tie.Need-same-length-2 Inv-loop μ-loop
 same-length-2 c = search needs
 
--- src/main.rt:39:1
 same-length-3 : tie.Need-same-length-3 Inv-loop μ-loop
 same-length-3 c = search needs
 
--- src/main.rt:39:1
 returns : tie.Need-returns Inv-loop μ-loop
 returns c = search needs
 

@@ -1,5 +1,4 @@
 -- `first_fault` meets its contract: the tests of the checks 10, 8 and 12 in order.
-use native.Mathlib.Omega.{arith}
 use mathlib.Core.Path.{sym, _∙_}
 use borrow.Author.Tests.{not-true, not-false}
 use Rattle.ranges.proofs.Good.{good}

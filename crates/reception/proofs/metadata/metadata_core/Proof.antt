@@ -1,5 +1,4 @@
 -- `metadata_core` meets its contract: each answer is that of the checks in order, and only the missing mark is cleared.
-use native.Mathlib.Omega.{arith}
 use Prim.Native.Nat.{ℕ}
 use mathlib.Core.Path.{_≡_, sym, ap, _∙_}
 use borrow.Author.Needs.{needs}
