@@ -122,6 +122,10 @@ fn keep(list: &mut [u64], count: usize, p: u64, a: u64, e: u64) -> Remains
     if p < a {
         return add_gap(list, count, p, a);
     }
+    // Data in order: no range ends above progress.
+    if p == a {
+        return Remains::Left(count);
+    }
     let i = first_past(list, count, a);
     let j = first_from(list, count, i, e);
     if i == j {
