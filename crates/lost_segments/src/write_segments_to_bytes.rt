@@ -1,5 +1,9 @@
 // write_segments_to_bytes: the counted pairs as the segment requests of a NAK PDU.
 ghost use mathlib.Core.Path.{_≡_};
+ghost use mathlib.Core.Bool.{false};
+ghost use Prim.Native.Nat.{_≤_};
+ghost use lib.ListN.{length, take};
+ghost use Rattle.ranges.specs.Store.{anyAbove};
 ghost use Rattle.lost_segments.specs.WriteSegmentsToBytes.{writeCase, writeOutcome, writeBuffer};
 use crate::Store;
 use octets::LargeFileFlag;
@@ -11,6 +15,17 @@ pub enum WriteAnswer {
     BadStore,
     BufferSizeMissmatch(usize, usize),
     LargeSegmentForNormalFileSize,
+}
+
+// 7: whether one of the first `end` numbers, none of them above top, is above the flag's largest.
+fn any_too_large(list: &[u64], end: usize, top: u64, largest: u64) -> bool
+    requires { ⌜ (end ≤ length (now list)) × (anyAbove top (take end (now list)) ≡ false) ⌝ }
+    ensures { λ r. ⌜ r ≡ anyAbove largest (take end (now (list .entry))) ⌝ }
+{
+    if top <= largest {
+        return false;
+    }
+    any_above(list, end, largest)
 }
 
 impl Store {
@@ -36,7 +51,7 @@ impl Store {
             return WriteAnswer::BufferSizeMissmatch(needed, given);
         }
         let largest = flag.largest();
-        if any_above(list, 2 * count, largest) {
+        if any_too_large(list, 2 * count, top, largest) {
             return WriteAnswer::LargeSegmentForNormalFileSize;
         }
         put_all(buf, 0, f, list, 0, 2 * count);

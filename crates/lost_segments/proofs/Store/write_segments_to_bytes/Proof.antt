@@ -80,11 +80,11 @@ returns-2 c =
 largest-requires : tie.Need-largest-requires
 largest-requires c κs = search needs
 
-mul-any-above : tie.Need-mul-any-above
-mul-any-above c = let g = good _ _ _ (sym (c .before .before .before .before .bad-store .ensures) ∙ c .before .before .before .if1 .left) in omega arith
+mul-any-too-large : tie.Need-mul-any-too-large
+mul-any-too-large c = let g = good _ _ _ (sym (c .before .before .before .before .bad-store .ensures) ∙ c .before .before .before .if1 .left) in omega arith
 
-any-above-requires : tie.Need-any-above-requires
-any-above-requires c κs = good _ _ _ (sym (c .before .before .before .before .bad-store .ensures) ∙ c .before .before .before .if1 .left) .room
+any-too-large-requires : tie.Need-any-too-large-requires
+any-too-large-requires c κs = let g = good _ _ _ (sym (c .before .before .before .before .bad-store .ensures) ∙ c .before .before .before .if1 .left) in (g .room, g .below)
 
 returns-3 : tie.Need-returns-3
 returns-3 c =
@@ -96,7 +96,7 @@ returns-3 c =
       sym (c .before .before .before .before .field-length .ensures),
       eq-eqb _ _ (c .before .before .before .if2 .left),
       sym (c .before .before .largest .ensures),
-      sym (c .before .any-above .ensures) ∙ c .if3 .taken,
+      sym (c .before .any-too-large .ensures) ∙ c .if3 .taken,
     ))
 
 mul-put-all : tie.Need-mul-put-all
@@ -120,7 +120,7 @@ returns-4 c =
     let e = c .before .before .before .before .before .before .before .before .field-length .ensures in
     let p : isBadStore (a .list .now) (a .self .count) (limitOf (a .self .width)) ≡ false = rw (sym (c .before .before .before .before .before .before .before .before .before .before .before .limit .ensures)) (sym (c .before .before .before .before .before .before .before .before .before .before .bad-store .ensures) ∙ c .before .before .before .before .before .before .before .before .before .if1 .left) in
     let q : eqb (length (a .buf .now)) (writeLength (a .self) (a .flag)) ≡ true = rw (sym e) (eq-eqb _ _ (c .before .before .before .before .before .before .before .if2 .left)) in
-    let u : anyAbove (largestOf (a .flag)) (take (2 * a .self .count) (a .list .now)) ≡ false = rw (sym (c .before .before .before .before .before .before .largest .ensures)) (sym (c .before .before .before .before .before .any-above .ensures) ∙ c .before .before .before .before .if3 .left) in
+    let u : anyAbove (largestOf (a .flag)) (take (2 * a .self .count) (a .list .now)) ≡ false = rw (sym (c .before .before .before .before .before .before .largest .ensures)) (sym (c .before .before .before .before .before .any-too-large .ensures) ∙ c .before .before .before .before .if3 .left) in
     let w = answer (a .list .now) (a .self) (a .flag) (a .buf .now) (accepted (writeLength (a .self) (a .flag) ∷ [])) (written (a .list .now) (a .self) (a .flag) (a .buf .now) p q u) in
     let l = length-octets f (a .self .count) (a .list .now) (g .room) in
     (rw e (w .0), c .before .before .put-all .ensures ∙ over-whole (a .buf .now) (fields f (take (2 * a .self .count) (a .list .now))) (omega arith) ∙ rw e (w .1))
@@ -137,8 +137,8 @@ write-segments-to-bytes-spec =
     mul-needed-2
     returns-2
     largest-requires
-    mul-any-above
-    any-above-requires
+    mul-any-too-large
+    any-too-large-requires
     returns-3
     mul-put-all
     put-all-requires
