@@ -1,4 +1,5 @@
 // The console: commands, one a line, from a file or standard input; an answer to each on standard output (docs/CONSOLE.md).
+// A program has no public calls: `pub` lets its modules call one another, and a `requires` is what each caller here has seen to.
 use libc::STDERR_FILENO;
 use libc::STDIN_FILENO;
 use state::State;

@@ -38,6 +38,7 @@ fn skip_word(line: &[u8], from: usize) -> usize
     i
 }
 
+// No public call: the place that it starts from lies within the line, as that of every caller does.
 pub fn next_word(line: &[u8], from: usize) -> Word
     requires { ⌜ from ≤ length (now line) ⌝ }
     ensures { λ r. ⌜ (from ≤ r .from) × ((r .from ≤ r .to) × (r .to ≤ length (now (line .entry)))) ⌝ }
@@ -50,6 +51,7 @@ pub fn next_word(line: &[u8], from: usize) -> Word
     }
 }
 
+// Whether two words are the same octets.
 pub fn same(a: &[u8], b: &[u8]) -> bool {
     if a.len() != b.len() {
         return false;
@@ -168,7 +170,7 @@ fn is_enough(kinds: &[u8], i: usize) -> bool {
     kind == b'.'
 }
 
-// The words from `from` on, one of each kind, into `values`.
+// The words from `from` on, one of each kind, into `values`. No public call: `from` is where the command's name ends.
 pub fn take_words(line: &[u8], from: usize, kinds: &[u8], values: &mut [u64; 8209]) -> Arguments
     requires { ⌜ from ≤ length (now line) ⌝ }
 {
@@ -235,7 +237,7 @@ fn octets(word: &[u8], buf: &mut [u8]) -> Arguments {
     Arguments::Taken(n)
 }
 
-// The one word of octets from `from` on, or none.
+// The one word of octets from `from` on, or none. No public call, as `take_words`.
 pub fn packet(line: &[u8], from: usize, buf: &mut [u8]) -> Arguments
     requires { ⌜ from ≤ length (now line) ⌝ }
 {
