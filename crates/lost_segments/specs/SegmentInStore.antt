@@ -1,9 +1,9 @@
 -- segment_in_store (a, b) is yes exactly if some stored (s, e) has a at least s and b at most e. (a, b) is not checked: reversed
 -- pairs may say yes. Only 10 refuses (document 01, "Ranges and the store").
-use Prim.Native.Nat.{ℕ}
+use Prim.Native.Nat.{ℕ, _≤_}
 use mathlib.Core.Bool.{cond}
-use mathlib.Core.List.{List, [], _∷_}
-use Rattle.ranges.specs.Range.{some, inside}
+use mathlib.Core.List.{List, [], _∷_, List·Memᴰ}
+use Rattle.ranges.specs.Range.{Range, some, inside}
 use Rattle.ranges.specs.Store.{counted, limitOf, isBadStore}
 use Rattle.ranges.specs.Outcome.{Outcome, accepted, badStore}
 use Rattle.lost_segments.specs.declared.Store.{Store}
@@ -20,3 +20,7 @@ abbrev pub inStoreOutcome : List ℕ → Store → ℕ → ℕ → Outcome
 inStoreOutcome xs st a b =
     cond (isBadStore xs (st .count) (limitOf (st .width))) badStore
     (cond (some (inside a b) (counted xs (st .count))) (accepted (1 ∷ [])) (accepted (0 ∷ [])))
+
+-- Some range of the list has a at least its start and b at most its end.
+abbrev pub Held : ℕ → ℕ → List Range → Type 0
+Held a b rs = (r : Range) × List·Memᴰ r rs × (r .start ≤ a) × (b ≤ r .end)

@@ -22,7 +22,7 @@ use Rattle.nak.specs.Inner.{GoodLengths}
 use Rattle.nak.specs.Writer.{isBadList, nakOutcome, writeOutcome, written}
 use Rattle.nak.proofs.Checks.{numbersOf, GoodNumbers, not-bad-identity, NakFine, nak-of, fine-nak, write-fine, write-accepted}
 use Rattle.nak_parser.specs.declared.Parsed.{Parsed}
-use Rattle.nak_parser.specs.Parser.{requestsPart, parsedOf, acceptedParsed, flagIn, fieldLengthIn, entityLengthIn, numberLengthIn, headerLengthIn, scopeAt, requestsAt, requestsIn, identityIn, scopeIn, requestsOf, nakIn, readOutcome}
+use Rattle.nak_parser.specs.Parser.{requestsPart, acceptedParsed, Says, flagIn, fieldLengthIn, entityLengthIn, numberLengthIn, headerLengthIn, scopeAt, requestsAt, requestsIn, identityIn, scopeIn, requestsOf, nakIn, readOutcome}
 use Rattle.nak_parser.proofs.Reading.{Read, read-of, header-is, entity-low, entity-high, number-low, number-high}
 use Rattle.nak_parser.proofs.Handed.{requests-at, parsed-accepted}
 use Rattle.nak_parser.proofs.Back.{nak-back, read-back, rest}
@@ -39,14 +39,6 @@ read-written xs n buf z =
     rw (w .outcome) (read-back n f, nak-back n f)
 
 -- what `parse` hands back of an accepted packet is what the packet says
-pub record Says (p : List ℕ) (n : Nak) : Type 0 where
-  pub refusal : parsedOf p .refusal ≡ 0
-  pub identity : parsedOf p .identity ≡ n .identity
-  pub flag : parsedOf p .flag ≡ n .flag
-  pub scope-start : parsedOf p .«scope_start» ≡ n .scope .start
-  pub scope-end : parsedOf p .«scope_end» ≡ n .scope .end
-  pub requests : requestsOf p ≡ n .requests
-
 pub parsed-says : (p : List ℕ) (n : Nak) → readOutcome p ≡ accepted [] → nakIn p ≡ n → Says p n
 unfolding acceptedParsed
 parsed-says p n a e =
@@ -68,11 +60,11 @@ parsed-written xs n buf z = let r = read-written xs n buf z in parsed-says (writ
 pub pdu-accepted : (n : Nak) → nakOutcome n ≡ accepted [] → readOutcome (pdu n) ≡ accepted []
 pdu-accepted n e = read-back n (nak-of n (ap (λ (o : Outcome). o .number) e))
 
--- Two NAKs within the limits that have one PDU are the same.
 -- and says what it was made of
 pub read-pdu : (n : Nak) → nakOutcome n ≡ accepted [] → nakIn (pdu n) ≡ n
 read-pdu n e = nak-back n (nak-of n (ap (λ (o : Outcome). o .number) e))
 
+-- Two NAKs within the limits that have one PDU are the same.
 pub pdu-injective : (m n : Nak) → nakOutcome m ≡ accepted [] → nakOutcome n ≡ accepted [] → pdu m ≡ pdu n → m ≡ n
 pdu-injective m n a b e =
     sym (nak-back m (nak-of m (ap (λ (o : Outcome). o .number) a))) ∙ ap nakIn e ∙ nak-back n (nak-of n (ap (λ (o : Outcome). o .number) b))

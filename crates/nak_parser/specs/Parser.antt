@@ -1,5 +1,6 @@
 -- Reading one PDU (document 01, "Reading").
 use Prim.Native.Nat.{ℕ, zero, suc, _+_, _*_, _-_, _/_, _%_}
+use mathlib.Core.Path.{_≡_}
 use mathlib.Core.Bool.{Bool, _||_, not, cond}
 use mathlib.Core.List.{List, [], _∷_}
 use lib.Dec.{eqb, ltb}
@@ -158,6 +159,15 @@ parsed o p = cond (eqb (o .number) 0) (acceptedParsed p) (refusedParsed (o .numb
 -- What reading hands back of a packet.
 unfoldable pub parsedOf : List ℕ → Parsed
 parsedOf p = parsed (readOutcome p) p
+
+-- What reading hands back of the packet p is what the NAK n says, and the octets of p hold its requests.
+pub record Says (p : List ℕ) (n : Nak) : Type 0 where
+  pub refusal : parsedOf p .refusal ≡ 0
+  pub identity : parsedOf p .identity ≡ n .identity
+  pub flag : parsedOf p .flag ≡ n .flag
+  pub scope-start : parsedOf p .«scope_start» ≡ n .scope .start
+  pub scope-end : parsedOf p .«scope_end» ≡ n .scope .end
+  pub requests : requestsOf p ≡ n .requests
 
 -- The requests as the caller's own octets: the part of an accepted packet from behind the scope to its end, and of a refused one
 -- an empty part at octet 0.

@@ -16,8 +16,9 @@ use Rattle.ranges.proofs.Test.{coalesced-of}
 use Rattle.octets.specs.declared.LargeFileFlag.{LargeFileFlag}
 use Rattle.octets.specs.Flag.{fieldLength, largestOf}
 use Rattle.nak.specs.Writer.{isBadIdentity}
+use Rattle.reception.specs.Record.{Passed}
 use Rattle.reception.specs.declared.Reception.{Reception}
-use Rattle.reception.proofs.Sound.{Passed, sound, checked-passed}
+use Rattle.reception.proofs.Sound.{sound, checked-passed}
 use Rattle.nak_sequence.specs.Sequence.{Order, headerOf, isBadSize, isTooLarge, asked, pduCount, sent, newCursor, sequenceOutcome, sequenceBuffer}
 
 module _ (rec : Reception) (xs : List ℕ) (o : Order) (buf : List ℕ) where

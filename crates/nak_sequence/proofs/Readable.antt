@@ -19,10 +19,10 @@ use Rattle.nak.specs.Pdu.{pdu}
 use Rattle.nak.specs.Request.{requestOutcome, requestsFrom, requestsOutcome}
 use Rattle.nak.specs.Writer.{isBadIdentity, nakOutcome}
 use Rattle.nak.proofs.Checks.{NakFine, fine-nak}
-use Rattle.nak_parser.specs.Parser.{readOutcome}
-use Rattle.nak_parser.proofs.RoundTrip.{Says, parsed-says, pdu-accepted, read-pdu}
+use Rattle.nak_parser.specs.Parser.{Says, readOutcome}
+use Rattle.nak_parser.proofs.RoundTrip.{parsed-says, pdu-accepted, read-pdu}
+use Rattle.reception.specs.Record.{Passed}
 use Rattle.reception.specs.declared.Reception.{Reception}
-use Rattle.reception.proofs.Sound.{Passed}
 use Rattle.ranges.proofs.Last.{ends-le, last-tail}
 use Rattle.nak_sequence.specs.Entries.{Asking, asking, entriesOf, endOf, scopeStart, scopeEnd, nakAt}
 use Rattle.nak_sequence.specs.Sequence.{Order, headerOf, isBadSize, isTooLarge, asked}

@@ -15,14 +15,14 @@ use Rattle.ranges.specs.Range.{Range, range, In, Covers, Coalesced, lastEnd}
 use Rattle.ranges.specs.Run.{RunsOf}
 use Rattle.ranges.specs.Store.{capacity, limitOf, stored}
 use Rattle.ranges.specs.Outcome.{Outcome, accepted, storeFull}
+use Rattle.ranges.specs.Without.{Outside}
 use Rattle.ranges.specs.declared.Width.{Width}
 use Rattle.ranges.proofs.Runs.{runs-of}
 use Rattle.ranges.proofs.Stored.{counted-stored}
-use Rattle.ranges.proofs.Without.{Outside, part-covers, length-part}
-use Rattle.reception.specs.Record.{waitingRanges}
+use Rattle.ranges.proofs.Without.{part-covers, length-part}
+use Rattle.reception.specs.Record.{waitingRanges, Passed}
 use Rattle.reception.specs.Data.{keptRanges, dataRanges, advanced}
 use Rattle.reception.specs.History.{Event, Data, Metadata, State, fresh, isAccepted, outcome, step, run, keptBy, kept, acceptedOf, endBy, largestEnd, Missing, rangesOf}
-use Rattle.reception.proofs.Sound.{Passed}
 use Rattle.reception.proofs.Keeping.{kept-covers, length-kept}
 use Rattle.reception.proofs.Standing.{Standing, standing-passed, standing-stored, standing-fresh, after-whole, after-last}
 use Rattle.reception.proofs.data.Answers.{after, data-full, data-taken}

@@ -13,7 +13,7 @@ use Rattle.ranges.proofs.Test.{or-false}
 use Rattle.ranges.proofs.Good.{Good, good}
 use Rattle.reception.specs.declared.Reception.{Reception}
 use Rattle.reception.specs.Inner.{faultOf}
-use Rattle.reception.specs.Record.{isWaiting, isBadRecord, checked}
+use Rattle.reception.specs.Record.{isWaiting, isBadRecord, checked, Passed}
 
 pub record Sound (xs : List ℕ) (rec : Reception) : Type 0 where
   pub store : Good xs (rec .count) (limitOf (rec .width))
@@ -30,12 +30,6 @@ sound xs rec e =
       small = ltb-false _ _ (b .0);
       waits = λ m. not-false (isWaiting (rec .progress) (counted xs (rec .count))) (rw m at (b .1));
     }
-
--- checks 10, 8 and 12 pass
-pub record Passed (xs : List ℕ) (rec : Reception) : Type 0 where
-  pub bad : isBadRecord xs rec ≡ false
-  pub whole : isCoalesced (counted xs (rec .count)) ≡ true
-  pub above : lastEnd (counted xs (rec .count)) ≤ rec .progress
 
 -- the three checks, for any outcome behind them
 module _ (xs : List ℕ) (rec : Reception) (behind : Outcome) where

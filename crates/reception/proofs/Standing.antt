@@ -16,10 +16,9 @@ use Rattle.ranges.proofs.Test.{of-coalesced}
 use Rattle.ranges.proofs.Good.{good-store}
 use Rattle.ranges.proofs.Without.{part-one, part-none}
 use Rattle.reception.specs.declared.Reception.{Reception}
-use Rattle.reception.specs.Record.{isBadRecord, isWaiting, waitingRanges}
+use Rattle.reception.specs.Record.{isBadRecord, isWaiting, waitingRanges, Passed}
 use Rattle.reception.specs.Data.{dataRanges}
 use Rattle.reception.specs.History.{State, rangesOf, fresh}
-use Rattle.reception.proofs.Sound.{Passed}
 use Rattle.ranges.proofs.Last.{ends-le, last-tail}
 use Rattle.reception.proofs.Keeping.{kept-coalesced, kept-last}
 use Rattle.reception.proofs.Waits.{of-waiting}

@@ -1,5 +1,6 @@
 -- The record of a reception: what makes it sound, and the checks that every event begins with (document 01, "Reception events").
-use Prim.Native.Nat.{ℕ}
+use Prim.Native.Nat.{ℕ, _≤_}
+use mathlib.Core.Path.{_≡_}
 use mathlib.Core.Bool.{Bool, true, false, _&&_, _||_, not, cond}
 use mathlib.Core.List.{List, [], _∷_}
 use lib.Dec.{ltb, eqb}
@@ -39,3 +40,9 @@ checked xs rec behind =
     cond (isBadRecord xs rec) badStore
     (cond (not (isCoalesced (counted xs (rec .count)))) notCoalesced
     (cond (ltb (rec .progress) (lastEnd (counted xs (rec .count)))) scopeBelowList behind))
+
+-- The three checks pass.
+pub record Passed (xs : List ℕ) (rec : Reception) : Type 0 where
+  pub bad : isBadRecord xs rec ≡ false
+  pub whole : isCoalesced (counted xs (rec .count)) ≡ true
+  pub above : lastEnd (counted xs (rec .count)) ≤ rec .progress

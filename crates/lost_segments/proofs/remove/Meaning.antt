@@ -10,19 +10,12 @@ use native.Mathlib.Omega.{arith}
 use lib.ListN.{length, getD}
 use lib.Dec.{ltb}
 use borrow.Author.Tests.{ltb-true, ltb-false}
-use Rattle.ranges.specs.Range.{Range, range, In, Covers, Coalesced, some, inside, shares}
-use Rattle.ranges.specs.Without.{without}
+use Rattle.ranges.specs.Range.{Range, range, In, Covers, Coalesced, Inside, Shares, some, inside, shares}
+use Rattle.ranges.specs.Without.{Outside, without}
 use Rattle.ranges.specs.Outcome.{Outcome, accepted, storeFull, invalidSegmentBoundary}
 use Rattle.ranges.proofs.Some.{inside-set, shares-set}
-use Rattle.ranges.proofs.Without.{Outside, without-covers, without-coalesced}
+use Rattle.ranges.proofs.Without.{without-covers, without-coalesced}
 use Rattle.lost_segments.specs.Remove.{removeFrom}
-
--- all offsets of (a, b) are the list's; some offset is
-abbrev pub Inside : ℕ → ℕ → List Range → Type 0
-Inside a b rs = (x : ℕ) → In x (range a b) → Covers x rs
-
-abbrev pub Shares : ℕ → ℕ → List Range → Type 0
-Shares a b rs = (x : ℕ) × In x (range a b) × Covers x rs
 
 -- outcomes of different numbers or values differ
 number-of : {o p : Outcome} → o ≡ p → o .number ≡ p .number

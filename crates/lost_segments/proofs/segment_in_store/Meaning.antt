@@ -1,7 +1,7 @@
 -- segment_in_store says yes exactly if some stored (s, e) has a at least s and b at most e, whatever (a, b) is.
 use mathlib.Core.Path.{_≡_, refl, ap}
 use mathlib.Core.Bool.{Bool, true, false}
-use mathlib.Core.List.{List, [], _∷_, List·Memᴰ}
+use mathlib.Core.List.{List, [], _∷_}
 use mathlib.Core.Logic.{_↔_}
 use Prim.Native.Nat.{ℕ, _≤_}
 use native.Mathlib.Omega.{arith}
@@ -11,11 +11,7 @@ use Rattle.ranges.specs.Store.{counted, limitOf, isBadStore}
 use Rattle.ranges.specs.Outcome.{Outcome, accepted}
 use Rattle.ranges.proofs.Some.{some-member, inside-true}
 use Rattle.lost_segments.specs.declared.Store.{Store}
-use Rattle.lost_segments.specs.SegmentInStore.{inStoreOutcome}
-
--- some counted pair has a at least its start and b at most its end
-abbrev pub Held : ℕ → ℕ → List Range → Type 0
-Held a b rs = (r : Range) × List·Memᴰ r rs × (r .start ≤ a) × (b ≤ r .end)
+use Rattle.lost_segments.specs.SegmentInStore.{Held, inStoreOutcome}
 
 pub in-store-yes : (xs : List ℕ) (st : Store) (a b : ℕ) → isBadStore xs (st .count) (limitOf (st .width)) ≡ false
     → (inStoreOutcome xs st a b ≡ accepted (1 ∷ [])) ↔ Held a b (counted xs (st .count))

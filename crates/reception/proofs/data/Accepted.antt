@@ -8,9 +8,10 @@ use lib.Dec.{ltb, eqb}
 use borrow.Author.Tests.{eqb-false, ltb-false}
 use Rattle.ranges.specs.Store.{capacity, limitOf}
 use Rattle.ranges.specs.Outcome.{Outcome, accepted, storeFull, emptySegment, largeFileSegmentNotSupported, rangeTooLong}
+use Rattle.reception.specs.Record.{Passed}
 use Rattle.reception.specs.declared.Reception.{Reception}
 use Rattle.reception.specs.Data.{dataOutcome}
-use Rattle.reception.proofs.Sound.{Passed, checked-passed}
+use Rattle.reception.proofs.Sound.{checked-passed}
 use Rattle.reception.proofs.data.Answers.{after}
 
 pub record Taken (rec : Reception) (xs : List ℕ) (offset size : ℕ) : Type 0 where

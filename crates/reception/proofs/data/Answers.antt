@@ -9,8 +9,9 @@ use borrow.Author.Tests.{eq-eqb, ne-eqb, lt-ltb, le-ltb}
 use Rattle.ranges.specs.Range.{Range}
 use Rattle.ranges.specs.Store.{counted, capacity, limitOf, stored}
 use Rattle.ranges.specs.Outcome.{Outcome, accepted, lent, storeFull, emptySegment, largeFileSegmentNotSupported, rangeTooLong}
+use Rattle.reception.specs.Record.{Passed}
 use Rattle.reception.specs.declared.Reception.{Reception}
-use Rattle.reception.proofs.Sound.{Passed, checked-passed}
+use Rattle.reception.proofs.Sound.{checked-passed}
 use Rattle.reception.specs.Data.{dataRanges, advanced, dataOutcome, dataRecord, dataList}
 
 module _ (rec : Reception) (xs : List ℕ) (offset size : ℕ) where
