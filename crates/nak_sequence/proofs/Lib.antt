@@ -3,6 +3,7 @@ pub mod Chain
 pub mod Sizes
 pub mod Answers
 pub mod Together
-pub mod Named
 pub mod Readable
+pub mod Parting
+pub mod Named
 pub mod Cases

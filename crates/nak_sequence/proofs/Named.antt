@@ -1,34 +1,31 @@
--- After any history of events, the whole sequence takes E/k PDUs, rounded up; it names each missing octet once and no other, asks for
--- metadata once exactly if it is missing, and no list of fewer ranges than the runs names the same octets.
-use mathlib.Core.Path.{_≡_, refl, ap}
+-- What the octets of a run of calls name, for the record and the list that any history of events leaves. Parted by their own length
+-- fields and read, they name each missing octet once and no other, and ask for metadata once exactly if it is missing.
+use mathlib.Core.Path.{_≡_, refl, sym, ap, _∙_}
 use mathlib.Core.Bool.{Bool, true, false, cond}
 use mathlib.Core.List.{List, [], _∷_}
 use mathlib.Core.Logic.{inr, ⊎-elim, _↔_}
-use Prim.Native.Nat.{ℕ, zero, suc, _+_, _*_, _≤_, _<_}
+use Prim.Native.Nat.{ℕ, zero, suc, _+_, _*_, _-_, _≤_, _<_, min}
 use native.Mathlib.Omega.{arith}
 use lib.ListN.{length, getD}
-use lib.Dec.{eqb, ltb}
-use borrow.Author.Tests.{ne-eqb, ltb-false}
-use Rattle.ranges.specs.Range.{Range, range, In, Covers, Above, Coalesced, Same}
+use lib.Seq.{take-all}
+use lib.Dec.{eqb}
+use borrow.Author.Tests.{ne-eqb}
+use Rattle.ranges.specs.Range.{Range, range, In, Covers, Above, Coalesced}
 use Rattle.ranges.specs.declared.Width.{Width}
 use Rattle.ranges.proofs.Covering.{above-covers, at-covers}
 use Rattle.ranges.proofs.Fewest.{fewest}
-use Rattle.ranges.proofs.Test.{or-false, and-none}
-use Rattle.octets.specs.Flag.{fieldLength}
+use Rattle.ranges.proofs.Test.{and-none}
+use Rattle.nak.specs.Writer.{isBadIdentity}
 use Rattle.reception.specs.History.{Event, State, fresh, run, rangesOf, Missing}
-use Rattle.reception.proofs.Histories.{missing-exact, list-coalesced}
-use Rattle.nak_sequence.specs.Entries.{Asking, entriesOf, roundedUp}
-use Rattle.nak_sequence.specs.Sequence.{Order, headerOf, isBadSize, asked}
-use Rattle.nak_sequence.specs.Whole.{wholeSequence, requestsOf, metadataAsked}
-use Rattle.nak_sequence.proofs.Sizes.{field-low, per-low}
-use Rattle.nak_sequence.proofs.Together.{length-naks, requests-whole}
-
--- an order that check 14 passes has room for a request in each PDU
-pub some-each : (o : Order) → isBadSize o ≡ false → headerOf o + 1 + 4 * fieldLength (o .flag) ≤ o .largest
-unfolding isBadSize
-some-each o e =
-    let w = or-false (ltb 4096 (o .largest)) (ltb (o .largest) (headerOf o + 1 + 4 * fieldLength (o .flag))) e in
-    ltb-false (o .largest) (headerOf o + 1 + 4 * fieldLength (o .flag)) (w .1)
+use Rattle.reception.specs.Record.{Passed}
+use Rattle.reception.proofs.Histories.{missing-exact, list-coalesced, always-sound}
+use Rattle.nak_sequence.specs.Entries.{Asking, entriesOf, roundedUp, naks, octetsOf}
+use Rattle.nak_sequence.specs.Sequence.{Order, isBadSize, isTooLarge, asked}
+use Rattle.nak_sequence.specs.Calls.{Call, Fits, AllFit, answered, cursorAfter, pdusBy, octetsBy, budgets, wholeSequence}
+use Rattle.nak_sequence.specs.Parted.{parted, joined, AllRead, requestsRead, metadataAsked}
+use Rattle.nak_sequence.proofs.Sizes.{each-low}
+use Rattle.nak_sequence.proofs.Together.{length-naks, up-enough, ran, run-accepted, run-whole, run-pdus, run-cursor}
+use Rattle.nak_sequence.proofs.Parting.{pdus, length-pdus, joined-pdus, requests-naks, parted-naks, all-read, requests-read}
 
 -- the entry (0, 0) has no offset
 entries-cover : (m : Bool) (rs : List Range) (x : ℕ) → Covers x (entriesOf m rs) ↔ Covers x rs
@@ -61,39 +58,105 @@ metadata-entries : (m : Bool) (rs : List Range) → Coalesced rs → metadataAsk
 metadata-entries true rs s = let i = no-metadata 0 rs s in omega arith
 metadata-entries false rs s = no-metadata 0 rs s
 
-module _ (w : Width) (xs : List ℕ) (N : ℕ) (size : length xs ≡ 2 * N) (few : N ≤ 4096) (es : List Event) (o : Order) (fits : isBadSize o ≡ false) where
-  abbrev reached : State
-  reached = run (fresh w xs) es
+length-entries : (m : Bool) (rs : List Range) → length (entriesOf m rs) ≡ length rs + cond m 1 0
+length-entries true rs = omega arith
+length-entries false rs = omega arith
 
-  abbrev a : Asking
-  a = asked (reached .rec) (reached .list) o
+-- a run of calls on the record that any history leaves, for an order that checks 13, 14 and 7 pass
+module _
+    (w : Width) (xs : List ℕ) (N : ℕ) (size : length xs ≡ 2 * N) (few : N ≤ 4096) (es : List Event)
+    (o : Order)
+    (id : isBadIdentity (o .identity) ≡ false)
+    (sz : isBadSize o ≡ false)
+    (lg : isTooLarge (run (fresh w xs) es .rec) (run (fresh w xs) es .list) (o .flag) ≡ false)
+    (cs : List Call) (fit : AllFit o cs)
+  where
+    abbrev reached : State
+    reached = run (fresh w xs) es
 
-  each-low : 1 ≤ a .each
-  each-low = per-low (o .largest) (headerOf o) (fieldLength (o .flag)) (field-low (o .flag)) (some-each o fits)
+    abbrev a : Asking
+    a = asked (reached .rec) (reached .list) o
 
-  requests : requestsOf (wholeSequence a) ≡ entriesOf (reached .rec .missing) (rangesOf reached)
-  requests = requests-whole a each-low
+    sound : Passed (reached .list) (reached .rec)
+    sound = always-sound w xs N size few es
 
-  -- the whole sequence takes E/k PDUs, rounded up
-  pub pdus-whole : length (wholeSequence a) ≡ roundedUp (length (a .entries)) (a .each)
-  pdus-whole = length-naks a 0 (roundedUp (length (a .entries)) (a .each))
+    -- the octets that the answers report, in order, and the PDUs in them
+    abbrev octets : List ℕ
+    octets = octetsBy (reached .rec) (reached .list) o 0 cs
 
-  -- it names each missing octet and no other
-  pub names-missing : (x : ℕ) → Covers x (requestsOf (wholeSequence a)) ↔ Missing (fresh w xs) es x
-  names-missing x =
-      let c = entries-cover (reached .rec .missing) (rangesOf reached) x in
-      let m = missing-exact w xs N size few es x in
-      rw requests (λ h. m .0 (c .0 h), λ h. c .1 (m .1 h))
+    abbrev count : ℕ
+    count = min (budgets cs) (roundedUp (length (a .entries) - 0) (a .each))
 
-  -- each once
-  pub names-once : (x i j : ℕ) → i < length (requestsOf (wholeSequence a)) → j < length (requestsOf (wholeSequence a))
-      → In x (getD (requestsOf (wholeSequence a)) i (range 0 0)) → In x (getD (requestsOf (wholeSequence a)) j (range 0 0)) → i ≡ j
-  names-once = rw requests (entry-once (reached .rec .missing) (rangesOf reached) (list-coalesced w xs N size few es))
+    some-octets : octets ≡ octetsOf (naks a 0 count)
+    some-octets = ran (reached .rec) (reached .list) o sound id sz lg cs 0 (omega arith) fit .octets
 
-  -- it asks for metadata once exactly if it is missing
-  pub metadata-once : metadataAsked (requestsOf (wholeSequence a)) ≡ cond (reached .rec .missing) 1 0
-  metadata-once = rw requests (metadata-entries (reached .rec .missing) (rangesOf reached) (list-coalesced w xs N size few es))
+    parts : parted octets ≡ pdus (naks a 0 count)
+    parts = ap parted some-octets ∙ parted-naks (reached .rec) (reached .list) o sound id sz lg 0 count
 
-  -- no list of fewer ranges than the runs names the same octets
-  pub names-fewest : (qs : List Range) → Same (rangesOf reached) qs → length (rangesOf reached) ≤ length qs
-  names-fewest qs f = fewest (rangesOf reached) qs (list-coalesced w xs N size few es) f
+    -- a further call whose budget is at most 16 and whose buffer has room is accepted
+    pub calls-accepted : (c : Call) → Fits o c → answered (reached .rec) (reached .list) o (cursorAfter (reached .rec) (reached .list) o 0 cs) c .number ≡ 0
+    calls-accepted c f = run-accepted (reached .rec) (reached .list) o sound id sz lg cs c fit f
+
+    -- as many PDUs stand in the buffers as the answers report, and nothing else
+    pub calls-parted : (length (parted octets) ≡ pdusBy (reached .rec) (reached .list) o 0 cs) × (joined (parted octets) ≡ octets)
+    calls-parted =
+        let r = ran (reached .rec) (reached .list) o sound id sz lg cs 0 (omega arith) fit .pdus in (
+          ap length parts ∙ length-pdus (naks a 0 count) ∙ length-naks a 0 count ∙ sym r,
+          ap joined parts ∙ joined-pdus (naks a 0 count) ∙ sym some-octets,
+        )
+
+    -- the reader accepts each, none is longer than P, and each carries the identity and the flag of the order
+    pub calls-read : AllRead (o .largest) (o .identity) (o .flag) (parted octets)
+    calls-read = rw parts (all-read (reached .rec) (reached .list) o sound id sz lg 0 count)
+
+    -- once the budgets suffice
+    module _ (enough : roundedUp (length (a .entries)) (a .each) ≤ budgets cs) where
+      -- the octets are those of the whole sequence
+      pub calls-whole : octets ≡ wholeSequence (reached .rec) (reached .list) o
+      calls-whole = run-whole (reached .rec) (reached .list) o sound id sz lg cs fit enough
+
+      -- the PDUs reported add up to E/k, rounded up, and the cursor is E
+      pub calls-pdus : pdusBy (reached .rec) (reached .list) o 0 cs ≡ roundedUp (length (a .entries)) (a .each)
+      calls-pdus = run-pdus (reached .rec) (reached .list) o sound id sz lg cs fit enough
+
+      pub calls-cursor : cursorAfter (reached .rec) (reached .list) o 0 cs ≡ length (a .entries)
+      calls-cursor = run-cursor (reached .rec) (reached .list) o sound id sz lg cs fit enough
+
+      -- the requests read are the entries, in order
+      requests : requestsRead (parted octets) ≡ entriesOf (reached .rec .missing) (rangesOf reached)
+      requests =
+          let z : count ≡ roundedUp (length (a .entries)) (a .each) =
+          ap (λ (n : ℕ). min (budgets cs) (roundedUp n (a .each))) {x = length (a .entries) - 0} {y = length (a .entries)} (omega arith) ∙ omega arith in
+          let u = up-enough (length (a .entries)) (a .each) (each-low o sz) in
+          let m : length (a .entries) ≤ count * a .each = rw z u in
+          ap requestsRead parts
+          ∙ requests-read (reached .rec) (reached .list) o sound id sz lg 0 count
+          ∙ requests-naks a 0 count
+          ∙ take-all (count * a .each) (a .entries) m
+
+      -- they name each missing octet and no other
+      pub names-missing : (x : ℕ) → Covers x (requestsRead (parted octets)) ↔ Missing (fresh w xs) es x
+      names-missing x =
+          let c = entries-cover (reached .rec .missing) (rangesOf reached) x in
+          let m = missing-exact w xs N size few es x in
+          rw requests (λ h. m .0 (c .0 h), λ h. c .1 (m .1 h))
+
+      -- each once
+      pub names-once : (x i j : ℕ) → i < length (requestsRead (parted octets)) → j < length (requestsRead (parted octets))
+          → In x (getD (requestsRead (parted octets)) i (range 0 0)) → In x (getD (requestsRead (parted octets)) j (range 0 0)) → i ≡ j
+      names-once = rw requests (entry-once (reached .rec .missing) (rangesOf reached) (list-coalesced w xs N size few es))
+
+      -- they ask for metadata once exactly if it is missing
+      pub metadata-once : metadataAsked (requestsRead (parted octets)) ≡ cond (reached .rec .missing) 1 0
+      metadata-once = rw requests (metadata-entries (reached .rec .missing) (rangesOf reached) (list-coalesced w xs N size few es))
+
+      -- and no list of fewer ranges names the same octets
+      pub names-fewest : (qs : List Range) → ((x : ℕ) → Covers x qs ↔ Missing (fresh w xs) es x)
+          → length (requestsRead (parted octets)) ≤ length qs + cond (reached .rec .missing) 1 0
+      names-fewest qs f =
+          let m = missing-exact w xs N size few es in
+          let k =
+          fewest (rangesOf reached) qs (list-coalesced w xs N size few es)
+          (λ x. (λ h. f x .1 (m x .0 h), λ h. m x .1 (f x .0 h))) in
+          let e = length-entries (reached .rec .missing) (rangesOf reached) in
+          rw requests (omega arith)

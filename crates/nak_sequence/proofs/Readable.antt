@@ -26,8 +26,7 @@ use Rattle.reception.specs.declared.Reception.{Reception}
 use Rattle.ranges.proofs.Last.{ends-le, last-tail}
 use Rattle.nak_sequence.specs.Entries.{Asking, asking, entriesOf, endOf, scopeStart, scopeEnd, nakAt}
 use Rattle.nak_sequence.specs.Sequence.{Order, headerOf, isBadSize, isTooLarge, asked}
-use Rattle.nak_sequence.proofs.Sizes.{field-low, per-low, pdu-short}
-use Rattle.nak_sequence.proofs.Named.{some-each}
+use Rattle.nak_sequence.proofs.Sizes.{some-each, each-low, pdu-short}
 
 -- ranges that are not empty and end at p or before
 abbrev Within : ℕ → List Range → Type 0
@@ -159,9 +158,6 @@ module _ (rec : Reception) (xs : List ℕ) (o : Order) (ps : Passed xs rec) (id 
   within : Within (rec .progress) (counted xs (rec .count))
   within = above-within 0 (rec .progress) (counted xs (rec .count)) whole (ps .above)
 
-  each-low : 1 ≤ a .each
-  each-low = per-low (o .largest) (headerOf o) (fieldLength (o .flag)) (field-low (o .flag)) (some-each o sz)
-
   -- every PDU of the sequence is within the limits
   pub pdu-fine : (f : ℕ) → NakFine (nakAt a f)
   pdu-fine f =
@@ -169,9 +165,9 @@ module _ (rec : Reception) (xs : List ℕ) (o : Order) (ps : Passed xs rec) (id 
       let q = pdu-short a (o .largest) f refl (some-each o sz) in
       record {
         identity = id;
-        scope = scope-ordered (rec .missing) (rec .progress) (a .each) (counted xs (rec .count)) each-low whole within (o .flag) (o .identity) f;
+        scope = scope-ordered (rec .missing) (rec .progress) (a .each) (counted xs (rec .count)) (each-low o sz) whole within (o .flag) (o .identity) f;
         requests = entries-fine (rec .missing) (rec .progress) (a .each) f (counted xs (rec .count)) within;
-        numbers = numbers-fine (rec .missing) (rec .progress) (a .each) (counted xs (rec .count)) each-low whole within (o .flag) (o .identity) f (small-progress rec xs (o .flag) lg);
+        numbers = numbers-fine (rec .missing) (rec .progress) (a .each) (counted xs (rec .count)) (each-low o sz) whole within (o .flag) (o .identity) f (small-progress rec xs (o .flag) lg);
         size = omega arith;
       }
 

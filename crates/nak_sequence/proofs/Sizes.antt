@@ -1,15 +1,20 @@
 -- How long the PDUs of a sequence are: each at most P octets, so g of them at most g × P.
 use mathlib.Core.Path.{_≡_}
+use mathlib.Core.Bool.{false}
 use Prim.Native.Nat.{ℕ, zero, suc, _+_, _*_, _-_, _≤_, _<_}
 use native.Mathlib.Nat.{mul-comm, one-mul, suc-mul, le-div-iff-mul-le, div-le-self, div-mul-le-self, mul-le-mul-left}
 use native.Mathlib.Omega.{arith}
+use lib.Dec.{ltb}
+use borrow.Author.Tests.{ltb-false}
 use lib.ListN.{length, take, drop, length-append, length-take}
+use Rattle.ranges.proofs.Test.{or-false}
 use Rattle.octets.specs.declared.LargeFileFlag.{LargeFileFlag}
 use Rattle.octets.specs.declared.LargeFileFlag.the-variants.{Normal, Large}
 use Rattle.octets.specs.Flag.{fieldLength}
 use Rattle.nak.specs.Pdu.{pdu, headerLength}
 use Rattle.nak.proofs.Parts.{length-of-pdu}
 use Rattle.nak_sequence.specs.Entries.{Asking, perPdu, nakAt, naks, octetsOf}
+use Rattle.nak_sequence.specs.Sequence.{Order, headerOf, isBadSize}
 
 pub field-low : (g : LargeFileFlag) → 4 ≤ fieldLength g
 field-low Normal = omega arith
@@ -52,3 +57,13 @@ module _ (a : Asking) (p : ℕ) where
       let l = length-append (pdu (nakAt a f)) (octetsOf (naks a (f + a .each) n)) in
       let m = suc-mul n p in
       omega arith
+
+-- an order that check 14 passes has room for a request in each PDU
+pub some-each : (o : Order) → isBadSize o ≡ false → headerOf o + 1 + 4 * fieldLength (o .flag) ≤ o .largest
+unfolding isBadSize
+some-each o e =
+    let w = or-false (ltb 4096 (o .largest)) (ltb (o .largest) (headerOf o + 1 + 4 * fieldLength (o .flag))) e in
+    ltb-false (o .largest) (headerOf o + 1 + 4 * fieldLength (o .flag)) (w .1)
+
+pub each-low : (o : Order) → isBadSize o ≡ false → 1 ≤ perPdu (o .largest) (headerOf o) (fieldLength (o .flag))
+each-low o e = per-low (o .largest) (headerOf o) (fieldLength (o .flag)) (field-low (o .flag)) (some-each o e)

@@ -1,19 +1,28 @@
 -- Calls on an unchanged record and list, the first from cursor 0 and each later one from the cursor the last one gave, together write
--- the octets of the whole sequence, whatever budgets are used; budget 0 writes nothing and keeps the cursor. The whole sequence asks
--- for every entry, in order.
-use mathlib.Core.Path.{_≡_, refl, sym, ap, _∙_}
+-- the octets of the whole sequence, whatever budgets are used; budget 0 writes nothing and keeps the cursor.
+use mathlib.Core.Path.{_≡_, refl, sym, ap, ap₂, _∙_}
+use mathlib.Core.Bool.{false}
 use mathlib.Core.List.{List, [], _∷_, _++_, append-nil}
 use Prim.Native.Nat.{ℕ, zero, suc, _+_, _*_, _-_, _≤_, _<_, min}
-use native.Mathlib.Nat.{zero-mul, suc-mul, add-mul, le-div-iff-mul-le, lt-div-mul-add, mul-le-mul-right}
+use native.Mathlib.Nat.{zero-mul, suc-mul, add-mul, le-div-iff-mul-le, lt-div-mul-add, mul-le-mul-left, mul-le-mul-right}
 use native.Mathlib.Omega.{arith}
 use native.Mathlib.Decide.{decLt}
 use lib.ListN.{length, take, drop}
-use lib.Seq.{drop-drop, take-add, take-all}
+use lib.Seq.{drop-drop, take-add, take-append-seam}
+use lib.Dec.{eqb}
+use borrow.Author.Tests.{ne-eqb}
 use Rattle.ranges.specs.Range.{Range}
+use Rattle.ranges.specs.Outcome.{Outcome, accepted, lent}
 use Rattle.nak.specs.Pdu.{Nak}
+use Rattle.nak.specs.Writer.{isBadIdentity}
+use Rattle.reception.specs.declared.Reception.{Reception}
+use Rattle.reception.specs.Record.{Passed}
 use Rattle.nak_sequence.specs.Entries.{Asking, roundedUp, nakAt, naks, octetsOf}
-use Rattle.nak_sequence.specs.Whole.{wholeSequence, requestsOf, writtenBy, cursorBy, together, sum}
+use Rattle.nak_sequence.specs.Sequence.{Order, isBadSize, isTooLarge, asked, pduCount, sent, newCursor}
+use Rattle.nak_sequence.specs.Calls.{Call, Fits, AllFit, calling, answered, bufferAfter, pdusIn, octetsIn, cursorIn, cursorAfter, pdusBy, octetsBy, budgets, wholeSequence}
+use Rattle.nak_sequence.proofs.Answers.{seq-sent}
 use Rattle.nak_sequence.proofs.Chain.{octets-append}
+use Rattle.nak_sequence.proofs.Sizes.{each-low}
 
 -- the number of PDUs is the number asked for
 pub length-naks : (a : Asking) (f n : ℕ) → length (naks a f n) ≡ n
@@ -32,7 +41,7 @@ naks-append a f (suc n) m =
 pub up-enough : (a k : ℕ) → 1 ≤ k → a ≤ roundedUp a k * k
 up-enough a k h = let l = lt-div-mul-add {a = a + (k - 1)} h in omega arith
 
-pub up-least : (a k n : ℕ) → 1 ≤ k → a ≤ n * k → roundedUp a k ≤ n
+up-least : (a k n : ℕ) → 1 ≤ k → a ≤ n * k → roundedUp a k ≤ n
 up-least a k n h l = go (decLt n (roundedUp a k))
   where
     go : Dec (n < roundedUp a k) → roundedUp a k ≤ n
@@ -71,68 +80,174 @@ up-sub x k g h l =
     let v = up-least x k (g + q) h (omega arith) in
     omega arith
 
--- the octets of a run of calls from cursor j on
-pub together-from : (a : Asking) → 1 ≤ a .each → (gs : List ℕ) (j : ℕ) → j ≤ length (a .entries)
-    → together a j gs ≡ octetsOf (naks a j (min (sum gs) (roundedUp (length (a .entries) - j) (a .each))))
-together-from a h [] j l = let e : min zero (roundedUp (length (a .entries) - j) (a .each)) ≡ zero = omega arith in rw e
-together-from a h (g ∷ gs) j l = go (decLt E (j + g * k)) (together-from a h gs)
+-- a call writes its PDUs, and the calls behind it the rest
+module _ (a : Asking) (h : 1 ≤ a .each) (j g b : ℕ) (l : j ≤ length (a .entries)) where
+  abbrev E : ℕ
+  E = length (a .entries)
+
+  abbrev k : ℕ
+  k = a .each
+
+  -- the PDUs from entry f on
+  abbrev left : ℕ → ℕ
+  left f = roundedUp (E - f) k
+
+  abbrev next : ℕ
+  next = min E (j + g * k)
+
+  counts : Dec (E < j + g * k) → min g (left j) + min b (left next) ≡ min (g + b) (left j)
+  counts (yes u) =
+      let z : left next ≡ 0 = ap (λ (n : ℕ). roundedUp n k) {x = E - next} {y = 0} (omega arith) ∙ up-zero k h in
+      let r = up-least (E - j) k g h (omega arith) in
+      omega arith
+  counts (no u) =
+      let s : left next ≡ left j - g = ap (λ (n : ℕ). roundedUp n k) {x = E - next} {y = E - j - g * k} (omega arith) ∙ up-sub (E - j) k g h (omega arith) in
+      let m = up-more (E - j) k g h (omega arith) in
+      omega arith
+
+  -- where PDUs are left to write, the call has written g of them
+  full : Dec (E < j + g * k) → naks a next (min b (left next)) ≡ naks a (j + min g (left j) * k) (min b (left next))
+  full (yes u) =
+      let z : left next ≡ 0 = ap (λ (n : ℕ). roundedUp n k) {x = E - next} {y = 0} (omega arith) ∙ up-zero k h in
+      let y : min b (left next) ≡ 0 = omega arith in
+      rw y
+  full (no u) =
+      let m = up-more (E - j) k g h (omega arith) in
+      let p : min g (left j) ≡ g = omega arith in
+      let e : next ≡ j + min g (left j) * k = rw p (omega arith) in
+      ap (λ (f : ℕ). naks a f (min b (left next))) e
+
+  pub count-seam : min g (left j) + min b (left next) ≡ min (g + b) (left j)
+  count-seam = counts (decLt E (j + g * k))
+
+  pub octets-seam : octetsOf (naks a j (min g (left j))) ++ octetsOf (naks a next (min b (left next))) ≡ octetsOf (naks a j (min (g + b) (left j)))
+  octets-seam =
+      ap (λ (ns : List Nak). octetsOf (naks a j (min g (left j))) ++ octetsOf ns) (full (decLt E (j + g * k)))
+      ∙ sym (octets-append (naks a j (min g (left j))) (naks a (j + min g (left j) * k) (min b (left next))))
+      ∙ ap octetsOf (sym (naks-append a j (min g (left j)) (min b (left next))) ∙ ap (naks a j) count-seam)
+
+  pub cursor-seam : min E (next + b * k) ≡ min E (j + (g + b) * k)
+  cursor-seam = let s = add-mul g b k in omega arith
+
+-- a refused call reports nothing, and leaves its buffer and the cursor as they were
+module _ (rec : Reception) (xs : List ℕ) (o : Order) (j : ℕ) (c : Call) (r : answered rec xs o j c .number ≡ 0 → ⊥) where
+  abbrev none : eqb (answered rec xs o j c .number) 0 ≡ false
+  none = ne-eqb (answered rec xs o j c .number) 0 r
+
+  pub refused-buffer : bufferAfter rec xs o j c ≡ c .buffer
+  refused-buffer = rw none
+
+  pub refused-cursor : cursorIn j (answered rec xs o j c) ≡ j
+  refused-cursor = rw none
+
+  -- so the run goes on as if it had not been made
+  pub refused-gone : (cs : List Call) → octetsBy rec xs o j (c ∷ cs) ≡ octetsBy rec xs o j cs
+  refused-gone cs = rw none
+
+-- calls on a sound record and an order that checks 13, 14 and 7 pass
+module _
+    (rec : Reception) (xs : List ℕ) (o : Order)
+    (ps : Passed xs rec)
+    (id : isBadIdentity (o .identity) ≡ false)
+    (sz : isBadSize o ≡ false)
+    (lg : isTooLarge rec xs (o .flag) ≡ false)
   where
-    E : ℕ
-    E = length (a .entries)
+    abbrev a : Asking
+    a = asked rec xs o
 
-    k : ℕ
-    k = a .each
+    abbrev each : 1 ≤ a .each
+    each = each-low o sz
 
-    R : ℕ
-    R = roundedUp (E - j) k
+    -- the PDUs from entry f on
+    abbrev from : ℕ → ℕ
+    from f = roundedUp (length (a .entries) - f) (a .each)
 
-    go : Dec (E < j + g * k) → ((i : ℕ) → i ≤ E → together a i gs ≡ octetsOf (naks a i (min (sum gs) (roundedUp (E - i) k)))) → together a j (g ∷ gs) ≡ octetsOf (naks a j (min (g + sum gs) R))
-    go (yes u) ih =
-        let c : cursorBy a j g ≡ E = omega arith in
-        let i : together a (cursorBy a j g) gs ≡ octetsOf (naks a (cursorBy a j g) (min (sum gs) (roundedUp (E - cursorBy a j g) k))) = ih (cursorBy a j g) (omega arith) in
-        let z : roundedUp (E - cursorBy a j g) k ≡ 0 = ap (λ (n : ℕ). roundedUp n k) {x = E - cursorBy a j g} {y = 0} (omega arith) ∙ up-zero k h in
-        let y : min (sum gs) (roundedUp (E - cursorBy a j g) k) ≡ 0 = omega arith in
-        let r = up-least (E - j) k g h (omega arith) in
-        let p : min g R ≡ R = omega arith in
-        let q : min (g + sum gs) R ≡ R = omega arith in
-        rw (p, q) (ap (λ (l : List ℕ). octetsOf (naks a j R) ++ l) (i ∙ ap (λ (n : ℕ). octetsOf (naks a (cursorBy a j g) n)) y) ∙ append-nil (octetsOf (naks a j R)))
-    go (no u) ih =
-        let c : cursorBy a j g ≡ j + g * k = omega arith in
-        let i : together a (j + g * k) gs ≡ octetsOf (naks a (j + g * k) (min (sum gs) (roundedUp (E - (j + g * k)) k))) = ih (j + g * k) (omega arith) in
-        let s : roundedUp (E - (j + g * k)) k ≡ R - g = ap (λ (n : ℕ). roundedUp n k) {x = E - (j + g * k)} {y = E - j - g * k} (omega arith) ∙ up-sub (E - j) k g h (omega arith) in
-        let m = up-more (E - j) k g h (omega arith) in
-        let p : min g R ≡ g = omega arith in
-        let q : min (g + sum gs) R ≡ g + min (sum gs) (R - g) = omega arith in
-        rw (p, q, c)
-        (ap (λ (l : List ℕ). octetsOf (naks a j g) ++ l) (i ∙ ap (λ (n : ℕ). octetsOf (naks a (j + g * k) (min (sum gs) n))) s)
-        ∙ sym (ap octetsOf (naks-append a j g (min (sum gs) (R - g))) ∙ octets-append (naks a j g) (naks a (j + g * k) (min (sum gs) (R - g)))))
+    abbrev reports : ℕ → Call → Outcome
+    reports j c = accepted (pduCount a (calling o j c) ∷ length (sent a (calling o j c)) ∷ newCursor a (calling o j c) ∷ [])
 
--- budgets that add up to at least E/k, rounded up, write the whole sequence
-pub together-whole : (a : Asking) → 1 ≤ a .each → (gs : List ℕ) → roundedUp (length (a .entries)) (a .each) ≤ sum gs → together a 0 gs ≡ octetsOf (wholeSequence a)
-together-whole a h gs l =
-    let z : length (a .entries) - 0 ≡ length (a .entries) = omega arith in
-    let e : min (sum gs) (roundedUp (length (a .entries) - 0) (a .each)) ≡ roundedUp (length (a .entries)) (a .each) = rw z (omega arith) in
-    together-from a h gs 0 (omega arith) ∙ ap (λ (n : ℕ). octetsOf (naks a 0 n)) e
+    sizes : (j : ℕ) (c : Call) → isBadSize (calling o j c) ≡ false
+    unfolding isBadSize
+    sizes j c = sz
 
--- budget 0 writes nothing and keeps the cursor
-pub nothing-sent : (a : Asking) (j : ℕ) → j ≤ length (a .entries) → (writtenBy a j 0 ≡ []) × (cursorBy a j 0 ≡ j)
-nothing-sent a j l =
-    let e : min 0 (roundedUp (length (a .entries) - j) (a .each)) ≡ 0 = omega arith in
-    let z = zero-mul (a .each) in
-    (rw e, omega arith)
+    -- a call whose budget is at most 16 and whose buffer has room is accepted
+    pub call-sent : (j : ℕ) (c : Call) → j ≤ length (a .entries) → Fits o c → answered rec xs o j c ≡ reports j c
+    call-sent j c l f = sym (seq-sent rec xs (calling o j c) (c .buffer) ps id (sizes j c) lg l (f .0) (f .1))
 
--- the requests of n PDUs from entry f on are n times k entries
-pub requests-naks : (a : Asking) (f n : ℕ) → requestsOf (naks a f n) ≡ take (n * a .each) (drop f (a .entries))
-requests-naks a f zero = let e = zero-mul (a .each) in rw e
-requests-naks a f (suc n) =
-    let k : ℕ = a .each in
-    let e : suc n * k ≡ k + n * k = let s = suc-mul n k in omega arith in
-    ap (λ (l : List Range). take k (drop f (a .entries)) ++ l) (requests-naks a (f + k) n ∙ ap (take (n * k)) (sym (drop-drop k f (a .entries))))
-    ∙ sym (ap (λ (m : ℕ). take m (drop f (a .entries))) e ∙ take-add k (n * k) (drop f (a .entries)))
+    call-octets : (j : ℕ) (c : Call) → j ≤ length (a .entries) → Fits o c
+        → take (octetsIn (answered rec xs o j c)) (bufferAfter rec xs o j c) ≡ sent a (calling o j c)
+    call-octets j c l f =
+        let w : List ℕ = sent a (calling o j c) in
+        ap (λ (p : Outcome). take (octetsIn p) (lent p (w ++ drop (length w) (c .buffer)) (c .buffer))) (call-sent j c l f)
+        ∙ take-append-seam w (drop (length w) (c .buffer))
 
--- the whole sequence asks for every entry, in order, and for nothing else
-pub requests-whole : (a : Asking) → 1 ≤ a .each → requestsOf (wholeSequence a) ≡ a .entries
-requests-whole a h =
-    let n : ℕ = roundedUp (length (a .entries)) (a .each) in
-    let e = up-enough (length (a .entries)) (a .each) h in
-    requests-naks a 0 n ∙ take-all (n * a .each) (a .entries) e
+    -- what a run of calls from cursor j on comes to
+    pub record Ran (j : ℕ) (cs : List Call) : Type 0 where
+      pub octets : octetsBy rec xs o j cs ≡ octetsOf (naks a j (min (budgets cs) (from j)))
+      pub pdus : pdusBy rec xs o j cs ≡ min (budgets cs) (from j)
+      pub cursor : cursorAfter rec xs o j cs ≡ min (length (a .entries)) (j + budgets cs * a .each)
+
+    pub ran : (cs : List Call) (j : ℕ) → j ≤ length (a .entries) → AllFit o cs → Ran j cs
+    ran [] j l f =
+        let e : min zero (from j) ≡ zero = omega arith in
+        let z = zero-mul (a .each) in
+        record { octets = rw e; pdus = sym e; cursor = omega arith }
+    ran (c ∷ cs) j l f =
+        let s = call-sent j c l (f .0) in
+        let i : ℕ = newCursor a (calling o j c) in
+        let n : cursorIn j (answered rec xs o j c) ≡ i = ap (cursorIn j) s in
+        let r = ran cs i (omega arith) (f .1) in
+        record {
+          octets =
+              ap₂ _++_ (call-octets j c l (f .0)) (ap (λ (m : ℕ). octetsBy rec xs o m cs) n ∙ r .octets)
+              ∙ octets-seam a each j (c .budget) (budgets cs) l;
+          pdus =
+              ap₂ _+_ (ap pdusIn s) (ap (λ (m : ℕ). pdusBy rec xs o m cs) n ∙ r .pdus)
+              ∙ count-seam a each j (c .budget) (budgets cs) l;
+          cursor =
+              ap (λ (m : ℕ). cursorAfter rec xs o m cs) n ∙ r .cursor ∙ cursor-seam a each j (c .budget) (budgets cs) l;
+        }
+
+    -- every call of a run from cursor 0 is accepted, whatever calls came before it
+    pub run-accepted : (cs : List Call) (c : Call) → AllFit o cs → Fits o c → answered rec xs o (cursorAfter rec xs o 0 cs) c .number ≡ 0
+    run-accepted cs c f g =
+        let r = ran cs 0 (omega arith) f .cursor in
+        ap (λ (p : Outcome). p .number) (call-sent (cursorAfter rec xs o 0 cs) c (omega arith) g)
+
+    -- budget 0 writes nothing and keeps the cursor
+    pub nothing-sent : (j : ℕ) (buf : List ℕ) → j ≤ length (a .entries)
+        → (answered rec xs o j (record { budget = 0; buffer = buf }) ≡ accepted (0 ∷ 0 ∷ j ∷ [])) × (bufferAfter rec xs o j (record { budget = 0; buffer = buf }) ≡ buf)
+    nothing-sent j buf l =
+        let c : Call = record { budget = 0; buffer = buf } in
+        let e : min 0 (from j) ≡ 0 = omega arith in
+        let z = zero-mul (a .each) in
+        let p = zero-mul (o .largest) in
+        let n : newCursor a (calling o j c) ≡ j = omega arith in
+        let s : answered rec xs o j c ≡ accepted (0 ∷ 0 ∷ j ∷ []) = call-sent j c l (omega arith, omega arith) ∙ rw (e, n) in
+        (s, rw (s, e))
+
+    -- budgets that add up to at least E/k, rounded up
+    module _ (cs : List Call) (f : AllFit o cs) (enough : roundedUp (length (a .entries)) (a .each) ≤ budgets cs) where
+      all : from 0 ≡ roundedUp (length (a .entries)) (a .each)
+      all = ap (λ (n : ℕ). roundedUp n (a .each)) {x = length (a .entries) - 0} {y = length (a .entries)} (omega arith)
+
+      -- write the whole sequence
+      pub run-whole : octetsBy rec xs o 0 cs ≡ wholeSequence rec xs o
+      run-whole =
+          let r = ran cs 0 (omega arith) f .octets in
+          let m = mul-le-mul-left (length (a .entries)) each in
+          let u = up-least (length (a .entries)) (a .each) (length (a .entries)) each (omega arith) in
+          let e : min (budgets cs) (from 0) ≡ from 0 = omega (arith, all) in
+          let d : min (length (a .entries)) (from 0) ≡ from 0 = omega (arith, all) in
+          r ∙ rw (e, d)
+
+      -- in E/k PDUs, rounded up
+      pub run-pdus : pdusBy rec xs o 0 cs ≡ roundedUp (length (a .entries)) (a .each)
+      run-pdus = ran cs 0 (omega arith) f .pdus ∙ omega (arith, all)
+
+      -- and the cursor is E
+      pub run-cursor : cursorAfter rec xs o 0 cs ≡ length (a .entries)
+      run-cursor =
+          let r = ran cs 0 (omega arith) f .cursor in
+          let u = up-enough (length (a .entries)) (a .each) each in
+          let m = mul-le-mul-right {m = roundedUp (length (a .entries)) (a .each)} {n = budgets cs} (a .each) enough in
+          r ∙ omega arith

@@ -1,4 +1,5 @@
 pub mod Entries
 pub mod Sequence
-pub mod Whole
+pub mod Calls
+pub mod Parted
 pub mod Inner
