@@ -1,7 +1,7 @@
 -- From a fresh reception with room for N, after any list of events, accepted and refused mixed: the list is exactly the maximal runs
--- of the octets below progress that no kept range covers; it is coalesced and ends at progress or before; progress is the largest
--- accepted end; it has at most as many runs as events were accepted; and a refused event leaves everything as it was.
-use mathlib.Core.Path.{_≡_, refl, sym, ap, _∙_}
+-- of the octets below the largest accepted end that no kept range covers; it is coalesced and ends at progress or before; it has at
+-- most as many runs as events were accepted; and every event finds a sound record.
+use mathlib.Core.Path.{_≡_, refl, sym, _∙_}
 use mathlib.Core.Bool.{Bool, true, false, _&&_, _||_, not, cond, true≢false}
 use mathlib.Core.List.{List, [], _∷_}
 use mathlib.Core.Logic.{_⊎_, inl, inr, ⊎-elim, _↔_}
@@ -9,24 +9,21 @@ use Prim.Native.Nat.{ℕ, zero, suc, _+_, _*_, _≤_, _<_, max}
 use native.Mathlib.Omega.{arith}
 use native.Mathlib.Decide.{decLt}
 use lib.ListN.{length}
-use lib.Dec.{ltb}
-use borrow.Author.Tests.{lt-ltb, ltb-true}
 use Rattle.ranges.specs.Range.{Range, range, In, Covers, Coalesced, lastEnd}
 use Rattle.ranges.specs.Run.{RunsOf}
-use Rattle.ranges.specs.Store.{capacity, limitOf, stored}
-use Rattle.ranges.specs.Outcome.{Outcome, accepted, storeFull}
+use Rattle.ranges.specs.Store.{stored}
 use Rattle.ranges.specs.Without.{Outside}
 use Rattle.ranges.specs.declared.Width.{Width}
 use Rattle.ranges.proofs.Runs.{runs-of}
 use Rattle.ranges.proofs.Stored.{counted-stored}
 use Rattle.ranges.proofs.Without.{part-covers, length-part}
 use Rattle.reception.specs.Record.{recordOf, waitingRanges, Passed}
-use Rattle.reception.specs.Data.{keptRanges, dataRanges, advanced}
+use Rattle.reception.specs.Data.{keptRanges, advanced}
 use Rattle.reception.specs.History.{Event, Data, Metadata, State, fresh, isAccepted, step, run, isMetadataCome, keptBy, keptFrom, kept, acceptedOf, Missing, rangesOf}
 use Rattle.reception.proofs.Keeping.{kept-covers, length-kept}
 use Rattle.reception.proofs.Records.{refused-same, step-mark, progress-largest}
 use Rattle.reception.proofs.Standing.{Standing, standing-passed, standing-stored, standing-fresh, after-whole, after-last}
-use Rattle.reception.proofs.data.Answers.{after, data-full, data-taken}
+use Rattle.reception.proofs.data.Answers.{after}
 use Rattle.reception.proofs.data.Accepted.{Taken, taken}
 
 -- what holds on the way: P are the offsets kept so far, n the events accepted
@@ -258,3 +255,21 @@ module _ (w : Width) (xs : List ℕ) (N : ℕ) (size : length xs ≡ 2 * N) (few
   pub always-sound : Passed (reached .list) (reached .rec)
   always-sound = standing-passed reached N (holds .standing)
 
+-- what an accepted event does to the set
+module _ (w : Width) (xs : List ℕ) (N : ℕ) (size : length xs ≡ 2 * N) (few : N ≤ 4096) (es : List Event) (o z : ℕ) where
+  abbrev before : State
+  before = run (fresh w xs) es
+
+  -- an accepted event leaves the ranges that its definition says
+  pub left-by : isAccepted before (Data o z) ≡ true → rangesOf (step before (Data o z)) ≡ after (before .rec) (before .list) o z
+  left-by f = rw f (counted-stored (after (before .rec) (before .list) o z) (before .rec .count) (before .list))
+
+  -- while the metadata is known: the range's offsets leave, those between progress and the offset become missing
+  pub effect-kept : isAccepted before (Data o z) ≡ true → before .rec .missing ≡ false → (x : ℕ)
+      → Covers x (rangesOf (step before (Data o z))) ↔ ((Covers x (rangesOf before) × Outside o (o + z) x) ⊎ In x (range (before .rec .progress) o))
+  effect-kept f m x =
+      let h = holds w xs N size few es in
+      let t = taken (before .rec) (before .list) o z (always-sound w xs N size few es) f in
+      let k = t .some in
+      let e : rangesOf (step before (Data o z)) ≡ keptRanges (before .rec .progress) o (o + z) (rangesOf before) = left-by f ∙ rw m in
+      rw e (kept-covers (before .rec .progress) o (o + z) (rangesOf before) (omega arith) (h .standing .whole) (h .standing .last) x)

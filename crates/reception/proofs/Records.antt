@@ -1,5 +1,5 @@
--- What any list of events leaves in the record of a reception: progress is the largest accepted end, the mark is clear exactly if a
--- metadata event was accepted, and the width is the one it began with.
+-- What any list of events leaves in the record: a refused event leaves everything as it was; progress is the largest accepted end, the
+-- mark is clear exactly if a metadata event was accepted, and the width is the one that the reception began with.
 use mathlib.Core.Path.{_≡_, refl, sym, ap, _∙_}
 use mathlib.Core.Bool.{Bool, true, false, _||_, not}
 use mathlib.Core.List.{List, [], _∷_}
