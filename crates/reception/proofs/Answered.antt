@@ -17,6 +17,7 @@ use Rattle.ranges.specs.declared.Width.{Width}
 use Rattle.ranges.proofs.Runs.{runs-of, one-runs}
 use Rattle.ranges.proofs.Without.{part-covers}
 use Rattle.reception.specs.Record.{Passed}
+use Rattle.reception.specs.Data.{isTooLong}
 use Rattle.reception.specs.History.{Event, Data, Metadata, State, fresh, outcome, isAccepted, step, run, metadataCame, WouldMiss, keptOrNoticed, rangesOf}
 use Rattle.reception.proofs.Keeping.{kept-covers}
 use Rattle.reception.proofs.Standing.{after-whole}
@@ -65,11 +66,11 @@ module _ (w : Width) (xs : List ℕ) (N : ℕ) (size : length xs ≡ 2 * N) (few
     module _ (some : z ≡ 0 → ⊥) where
       -- one whose end is above 2^64 - 1
       pub long-refused : 18446744073709551615 < o + z → outcome before (Data o z) ≡ rangeTooLong
-      long-refused h = sym (data-long (before .rec) (before .list) o z passed some h)
+      long-refused h = sym (data-long (before .rec) (before .list) o z passed some (lt-ltb _ _ h))
 
       -- one whose end is above the width's limit
       pub large-refused : o + z ≤ 18446744073709551615 → limitOf w < o + z → outcome before (Data o z) ≡ largeFileSegmentNotSupported
-      large-refused s h = sym (data-large (before .rec) (before .list) o z passed some s (rw (width-same w xs es) h))
+      large-refused s h = sym (data-large (before .rec) (before .list) o z passed some (le-ltb _ _ s) (rw (width-same w xs es) h))
 
       -- the list that the event would leave
       abbrev would : List Range
@@ -118,12 +119,16 @@ module _ (w : Width) (xs : List ℕ) (N : ℕ) (size : length xs ≡ 2 * N) (few
         below : o + z ≤ limitOf (before .rec .width)
         below = rw (width-same w xs es) small
 
+        -- check 9 passes
+        fits : isTooLong o z ≡ false
+        fits = rw (le-ltb 18446744073709551615 (o + z) short)
+
         full : N < length rs → outcome before (Data o z) ≡ storeFull
-        full h = sym (data-full (before .rec) (before .list) o z passed some short below (lt-ltb (capacity (before .list)) (length would) (omega (arith, room, as-long))))
+        full h = sym (data-full (before .rec) (before .list) o z passed some fits below (rw (lt-ltb (capacity (before .list)) (length would) (omega (arith, room, as-long)))))
 
         enough : length rs ≤ N → outcome before (Data o z) ≡ keptOrNoticed start es
         enough h =
-            sym (data-taken (before .rec) (before .list) o z passed some short below (le-ltb (capacity (before .list)) (length would) (omega (arith, room, as-long))))
+            sym (data-taken (before .rec) (before .list) o z passed some fits below (rw (le-ltb (capacity (before .list)) (length would) (omega (arith, room, as-long)))))
             ∙ told-by-mark (before .rec .missing) (metadataCame start es) (mark-metadata w xs es)
 
         -- it is refused with 1 exactly if there are more than N
@@ -146,7 +151,7 @@ module _ (w : Width) (xs : List ℕ) (N : ℕ) (size : length xs ≡ 2 * N) (few
     pub accepted-answered : isAccepted before (Data o z) ≡ true → outcome before (Data o z) ≡ keptOrNoticed start es
     accepted-answered f =
         let t = taken (before .rec) (before .list) o z passed f in
-        sym (data-taken (before .rec) (before .list) o z passed (t .some) (t .short) (t .small) (le-ltb (capacity (before .list)) (length (after (before .rec) (before .list) o z)) (t .room)))
+        sym (data-taken (before .rec) (before .list) o z passed (t .some) (t .short) (t .small) (t .free))
         ∙ told-by-mark (before .rec .missing) (metadataCame start es) (mark-metadata w xs es)
 
     -- and it leaves the runs of the offsets that were said to be missing then

@@ -6,19 +6,28 @@ use Prim.Native.Nat.{ℕ, _+_, _≤_}
 use lib.ListN.{length}
 use lib.Dec.{ltb, eqb}
 use borrow.Author.Tests.{eqb-false, ltb-false}
+use Rattle.ranges.specs.Range.{Range}
 use Rattle.ranges.specs.Store.{capacity, limitOf}
 use Rattle.ranges.specs.Outcome.{Outcome, accepted, storeFull, emptySegment, largeFileSegmentNotSupported, rangeTooLong}
 use Rattle.reception.specs.Record.{Passed}
 use Rattle.reception.specs.declared.Reception.{Reception}
-use Rattle.reception.specs.Data.{dataOutcome}
+use Rattle.reception.specs.Data.{isTooLong, isFull, dataOutcome}
 use Rattle.reception.proofs.Sound.{checked-passed}
 use Rattle.reception.proofs.data.Answers.{after}
 
 pub record Taken (rec : Reception) (xs : List ℕ) (offset size : ℕ) : Type 0 where
   pub some : size ≡ 0 → ⊥
-  pub short : offset + size ≤ 18446744073709551615
+  pub short : isTooLong offset size ≡ false
   pub small : offset + size ≤ limitOf (rec .width)
+  pub free : isFull (capacity xs) (after rec xs offset size) ≡ false
   pub room : length (after rec xs offset size) ≤ capacity xs
+
+not-full : (room : ℕ) (rs : List Range) → isFull room rs ≡ false → length rs ≤ room
+not-full room rs h = go (ltb room (length rs)) refl
+  where
+    go : (t : Bool) → ltb room (length rs) ≡ t → length rs ≤ room
+    go true e = absurd (true≢false (rw e at h))
+    go false e = ltb-false room (length rs) e
 
 isZero : Outcome → Bool
 isZero o = eqb (o .number) 0
@@ -39,15 +48,16 @@ unfolding isZero
 taken rec xs offset size p e =
     let o : Outcome =
     cond (eqb size 0) emptySegment
-    (cond (ltb 18446744073709551615 (offset + size)) rangeTooLong
+    (cond (isTooLong offset size) rangeTooLong
     (cond (ltb (limitOf (rec .width)) (offset + size)) largeFileSegmentNotSupported
-    (cond (ltb (capacity xs) (length (after rec xs offset size))) storeFull (cond (rec .missing) (accepted (0 ∷ [])) (accepted (1 ∷ [])))))) in
+    (cond (isFull (capacity xs) (after rec xs offset size)) storeFull (cond (rec .missing) (accepted (0 ∷ [])) (accepted (1 ∷ [])))))) in
     let w =
-    unchained (eqb size 0) (ltb 18446744073709551615 (offset + size)) (ltb (limitOf (rec .width)) (offset + size)) (ltb (capacity xs) (length (after rec xs offset size))) (rec .missing)
+    unchained (eqb size 0) (isTooLong offset size) (ltb (limitOf (rec .width)) (offset + size)) (isFull (capacity xs) (after rec xs offset size)) (rec .missing)
     (ap isZero (checked-passed xs rec o p) ∙ e) in
     record {
       some = eqb-false _ _ (w .0);
-      short = ltb-false _ _ (w .1);
+      short = w .1;
       small = ltb-false _ _ (w .2);
-      room = ltb-false _ _ (w .3);
+      free = w .3;
+      room = not-full (capacity xs) (after rec xs offset size) (w .3);
     }
