@@ -18,12 +18,12 @@ use Rattle.ranges.proofs.Runs.{runs-of, one-runs}
 use Rattle.ranges.proofs.Without.{part-covers}
 use Rattle.reception.specs.Record.{Passed}
 use Rattle.reception.specs.Data.{isTooLong}
-use Rattle.reception.specs.History.{Event, Data, Metadata, State, fresh, outcome, isAccepted, step, run, metadataCame, WouldMiss, keptOrNoticed, rangesOf}
+use Rattle.reception.specs.History.{Event, Data, Metadata, State, fresh, outcome, isAccepted, step, run, metadataCame, largestEnd, WouldMiss, keptOrNoticed, rangesOf}
 use Rattle.reception.proofs.Keeping.{kept-covers}
 use Rattle.reception.proofs.Standing.{after-whole}
 use Rattle.reception.proofs.Sound.{checked-passed}
 use Rattle.reception.proofs.Records.{progress-largest, mark-metadata, width-same}
-use Rattle.reception.proofs.Histories.{holds, always-sound, left-by}
+use Rattle.reception.proofs.Histories.{holds, missing-exact, always-sound, left-by}
 use Rattle.reception.proofs.data.Answers.{after, data-empty, data-long, data-large, data-full, data-taken}
 use Rattle.reception.proofs.data.Accepted.{taken}
 
@@ -44,6 +44,9 @@ module _ (w : Width) (xs : List ℕ) (N : ℕ) (size : length xs ≡ 2 * N) (few
 
   abbrev before : State
   before = run start es
+
+  progress : before .rec .progress ≡ largestEnd start es
+  progress = progress-largest w xs es
 
   passed : Passed (before .list) (before .rec)
   passed = always-sound w xs N size few es
@@ -66,11 +69,11 @@ module _ (w : Width) (xs : List ℕ) (N : ℕ) (size : length xs ≡ 2 * N) (few
     module _ (some : z ≡ 0 → ⊥) where
       -- one whose end is above 2^64 - 1
       pub long-refused : 18446744073709551615 < o + z → outcome before (Data o z) ≡ rangeTooLong
-      long-refused h = sym (data-long (before .rec) (before .list) o z passed some (lt-ltb _ _ h))
+      long-refused h = sym (data-long (before .rec) (before .list) o z passed some (rw (lt-ltb 18446744073709551615 (o + z) h)))
 
       -- one whose end is above the width's limit
       pub large-refused : o + z ≤ 18446744073709551615 → limitOf w < o + z → outcome before (Data o z) ≡ largeFileSegmentNotSupported
-      large-refused s h = sym (data-large (before .rec) (before .list) o z passed some (le-ltb _ _ s) (rw (width-same w xs es) h))
+      large-refused s h = sym (data-large (before .rec) (before .list) o z passed some (rw (le-ltb 18446744073709551615 (o + z) s)) (rw (width-same w xs es) h))
 
       -- the list that the event would leave
       abbrev would : List Range
@@ -91,14 +94,14 @@ module _ (w : Width) (xs : List ℕ) (N : ℕ) (size : length xs ≡ 2 * N) (few
           go true e =
               let g = holds w xs N size few es .standing in
               let k = kept-covers (before .rec .progress) o (o + z) (rangesOf before) ordered (g .whole) (g .last) x in
-              let i = holds w xs N size few es .exact x in
-              rw (mark-metadata w xs es, e, ← progress-largest w xs es) (
-                λ h. ⊎-elim (λ g. inl (i .0 (g .0), g .1)) (λ g. inr g) (k .0 h),
-                ⊎-elim (λ g. k .1 (inl (i .1 (g .0), g .1))) (λ g. k .1 (inr g)),
+              let i = missing-exact w xs N size few es x in
+              rw (mark-metadata w xs es, e) (
+                λ h. ⊎-elim (λ g. inl (i .0 (g .0), g .1)) (λ g. inr (omega (arith, progress), g .1)) (k .0 h),
+                ⊎-elim (λ g. k .1 (inl (i .1 (g .0), g .1))) (λ g. k .1 (inr (omega (arith, progress), g .1))),
               )
           go false e =
               let k = part-covers x 0 (max (before .rec .progress) (o + z)) in
-              rw (mark-metadata w xs es, e, ← progress-largest w xs es) (λ h. k .0 h .1, λ h. k .1 (omega arith, h))
+              rw (mark-metadata w xs es, e) (λ h. let u = k .0 h .1 in omega (arith, progress), λ h. k .1 (omega arith, omega (arith, progress)))
 
       -- it is the list of the maximal runs of the offsets that would be missing, and a set has no other
       would-runs : RunsOf (WouldMiss start es o z) would
