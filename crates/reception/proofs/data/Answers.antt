@@ -17,7 +17,8 @@ module _ (rec : Reception) (xs : List ℕ) (offset size : ℕ) where
 
   -- an answer, and what it leaves
   pub answer : (o : Outcome) → o ≡ dataOutcome rec xs offset size
-      → (o ≡ dataOutcome rec xs offset size) × ((lent o (advanced rec xs offset size) rec ≡ dataRecord rec xs offset size) × (lent o (stored after (rec .count) xs) xs ≡ dataList rec xs offset size))
+      → (o ≡ dataOutcome rec xs offset size)
+      × ((lent o (advanced rec xs offset size) rec ≡ dataRecord rec xs offset size) × (lent o (stored after (rec .count) xs) xs ≡ dataList rec xs offset size))
   answer o e = (e, (ap (λ (p : Outcome). lent p (advanced rec xs offset size) rec) e, ap (λ (p : Outcome). lent p (stored after (rec .count) xs) xs) e))
 
   module _ (p : Passed xs rec) where
