@@ -1,13 +1,13 @@
 -- What every event is answered after any list of events, said of the events, the width and the room alone: the metadata event; a data
 -- event that is empty or too long; and an otherwise valid one, by the room rule on the runs of the offsets that would be missing.
 use mathlib.Core.Path.{_≡_, refl, sym, ap, _∙_}
-use mathlib.Core.Bool.{Bool, true, false, not, cond}
+use mathlib.Core.Bool.{Bool, true, false, not, cond, true≢false}
 use mathlib.Core.List.{List, [], _∷_}
 use mathlib.Core.Logic.{_⊎_, inl, inr, ⊎-elim, _↔_}
 use Prim.Native.Nat.{ℕ, _+_, _*_, _≤_, _<_, max}
 use native.Mathlib.Omega.{arith}
 use native.Mathlib.Decide.{decLt}
-use lib.ListN.{length}
+use lib.ListN.{length, getD}
 use borrow.Author.Tests.{lt-ltb, le-ltb}
 use Rattle.ranges.specs.Range.{Range, Covers, Coalesced}
 use Rattle.ranges.specs.Run.{RunsOf}
@@ -36,6 +36,18 @@ told-by-mark m false e = rw e
 kept-apart : (c : Bool) → cond c (accepted (1 ∷ [])) (accepted (0 ∷ [])) ≡ storeFull → ⊥
 kept-apart true e = omega (arith, ap (λ (o : Outcome). o .number) e)
 kept-apart false e = omega (arith, ap (λ (o : Outcome). o .number) e)
+
+-- the two accepted answers differ
+none-noticed : accepted (1 ∷ []) ≡ accepted (0 ∷ []) → ⊥
+none-noticed e = omega (arith, ap (λ (o : Outcome). getD (o .values) 0 0) e)
+
+noticed-if : (c : Bool) → (cond c (accepted (1 ∷ [])) (accepted (0 ∷ [])) ≡ accepted (0 ∷ [])) ↔ (c ≡ false)
+noticed-if true = (λ e. absurd (none-noticed e), λ e. absurd (true≢false e))
+noticed-if false = (λ e. refl, λ e. refl)
+
+kept-if : (c : Bool) → (cond c (accepted (1 ∷ [])) (accepted (0 ∷ [])) ≡ accepted (1 ∷ [])) ↔ (c ≡ true)
+kept-if true = (λ e. refl, λ e. refl)
+kept-if false = (λ e. absurd (none-noticed (sym e)), λ e. absurd (true≢false (sym e)))
 
 -- after any events of a fresh reception with room for N, whatever the lent list holds
 module _ (w : Width) (xs : List ℕ) (N : ℕ) (size : length xs ≡ 2 * N) (few : N ≤ 4096) (es : List Event) where
@@ -150,12 +162,19 @@ module _ (w : Width) (xs : List ℕ) (N : ℕ) (size : length xs ≡ 2 * N) (few
             go e (yes h) = absurd (kept-apart (metadataCame start es) (sym e ∙ full h))
             go e (no h) = omega arith
 
-    -- an accepted data event: it is told to be kept exactly if a metadata event was accepted before it, else to be noticed
+    -- an accepted data event is told to be kept if a metadata event was accepted before it, else to be noticed
     pub accepted-answered : isAccepted before (Data o z) ≡ true → outcome before (Data o z) ≡ keptOrNoticed start es
     accepted-answered f =
         let t = taken (before .rec) (before .list) o z passed f in
         sym (data-taken (before .rec) (before .list) o z passed (t .some) (t .short) (t .small) (t .free))
         ∙ told-by-mark (before .rec .missing) (metadataCame start es) (mark-metadata w xs es)
+
+    -- so each of the two is told exactly then
+    pub noticed-exactly : isAccepted before (Data o z) ≡ true → (outcome before (Data o z) ≡ accepted (0 ∷ [])) ↔ (metadataCame start es ≡ false)
+    noticed-exactly f = rw (accepted-answered f) (noticed-if (metadataCame start es))
+
+    pub kept-exactly : isAccepted before (Data o z) ≡ true → (outcome before (Data o z) ≡ accepted (1 ∷ [])) ↔ (metadataCame start es ≡ true)
+    kept-exactly f = rw (accepted-answered f) (kept-if (metadataCame start es))
 
     -- and it leaves the runs of the offsets that were said to be missing then
     pub accepted-leaves : isAccepted before (Data o z) ≡ true → RunsOf (WouldMiss start es o z) (rangesOf (step before (Data o z)))

@@ -23,6 +23,7 @@ pub record Taken (rec : Reception) (xs : List ℕ) (offset size : ℕ) : Type 0 
   pub free : isFull (capacity xs) (after rec xs offset size) ≡ false
   pub room : length (after rec xs offset size) ≤ capacity xs
 
+-- a list that check 1 passes has room
 not-full : (room : ℕ) (rs : List Range) → isFull room rs ≡ false → length rs ≤ room
 not-full room rs h = go (ltb room (length rs)) refl
   where
