@@ -1,12 +1,20 @@
--- No two answers of an event have one outcome, so each event's statement allows one answer.
+-- No two answers of an event have one outcome, and no two structs that carry an answer have one outcome and one record: so each
+-- event's statement allows one answer.
 use mathlib.Core.Path.{_≡_, refl}
-use mathlib.Core.Bool.{cond}
+use mathlib.Core.Bool.{Bool, cond}
+use Prim.Native.Nat.{ℕ}
 use lib.Dec.{eqb}
 use lib.ListN.{getD}
 use Rattle.ranges.specs.Outcome.{Outcome}
+use Rattle.ranges.specs.declared.Width.{Width}
 use Rattle.ranges.proofs.Apart.{apart}
+use Rattle.reception.specs.Record.{recordOf}
 use Rattle.reception.specs.Data.{dataCase}
 use Rattle.reception.specs.Metadata.{metadataCase}
+use Rattle.reception.specs.declared.data.DataStep.{DataStep}
+use Rattle.reception.specs.declared.data.DataDone.{DataDone}
+use Rattle.reception.specs.declared.metadata.MetadataStep.{MetadataStep}
+use Rattle.reception.specs.declared.metadata.MetadataDone.{MetadataDone}
 use Rattle.reception.specs.declared.data.DataAnswer.{DataAnswer}
 use Rattle.reception.specs.declared.data.DataAnswer.the-variants as answer
 use Rattle.reception.specs.declared.metadata.MetadataAnswer.{MetadataAnswer}
@@ -52,3 +60,19 @@ metadata-back known.AlreadyKnown = refl
 
 pub one-metadata : (r s : MetadataAnswer) → metadataCase r ≡ metadataCase s → r ≡ s
 one-metadata = apart metadataCase metadataBack metadata-back
+
+-- what the cores hand back: with the fields of the record that they were given, it makes the record afterwards
+pub one-data-step : (w : Width) (m : Bool) (r s : DataStep) → dataCase (r .answer) ≡ dataCase (s .answer)
+    → recordOf (r .progress) (r .count) w m ≡ recordOf (s .progress) (s .count) w m → r ≡ s
+one-data-step w m r s a e = λ i. record { answer = one-data (r .answer) (s .answer) a i; count = e i .count; progress = e i .progress }
+
+pub one-metadata-step : (p c : ℕ) (w : Width) (r s : MetadataStep) → metadataCase (r .answer) ≡ metadataCase (s .answer)
+    → recordOf p c w (r .missing) ≡ recordOf p c w (s .missing) → r ≡ s
+one-metadata-step p c w r s a e = λ i. record { answer = one-metadata (r .answer) (s .answer) a i; missing = e i .missing }
+
+-- what a caller has after a step, by value
+pub one-data-done : (r s : DataDone) → dataCase (r .answer) ≡ dataCase (s .answer) → r .rec ≡ s .rec → r ≡ s
+one-data-done r s a e = λ i. record { answer = one-data (r .answer) (s .answer) a i; rec = e i }
+
+pub one-metadata-done : (r s : MetadataDone) → metadataCase (r .answer) ≡ metadataCase (s .answer) → r .rec ≡ s .rec → r ≡ s
+one-metadata-done r s a e = λ i. record { answer = one-metadata (r .answer) (s .answer) a i; rec = e i }

@@ -1,41 +1,30 @@
 -- From a fresh reception with room for N, after any list of events, accepted and refused mixed: the list is exactly the maximal runs
--- of the octets below progress that no kept range covers; it is coalesced and ends at progress or before; progress is the largest
--- accepted end; it has at most as many runs as events were accepted; and a refused event leaves everything as it was.
-use mathlib.Core.Path.{_≡_, refl, sym, ap, _∙_}
-use mathlib.Core.Bool.{Bool, true, false, cond, true≢false}
+-- of the octets below the largest accepted end that no kept range covers; it is coalesced and ends at progress or before; it has at
+-- most as many runs as events were accepted; and every event finds a sound record.
+use mathlib.Core.Path.{_≡_, refl, sym, _∙_}
+use mathlib.Core.Bool.{Bool, true, false, _&&_, _||_, not, cond, true≢false}
 use mathlib.Core.List.{List, [], _∷_}
 use mathlib.Core.Logic.{_⊎_, inl, inr, ⊎-elim, _↔_}
 use Prim.Native.Nat.{ℕ, zero, suc, _+_, _*_, _≤_, _<_, max}
 use native.Mathlib.Omega.{arith}
 use native.Mathlib.Decide.{decLt}
 use lib.ListN.{length}
-use lib.Dec.{ltb}
-use borrow.Author.Tests.{lt-ltb, ltb-true}
 use Rattle.ranges.specs.Range.{Range, range, In, Covers, Coalesced, lastEnd}
 use Rattle.ranges.specs.Run.{RunsOf}
-use Rattle.ranges.specs.Store.{capacity, limitOf, stored}
-use Rattle.ranges.specs.Outcome.{Outcome, accepted, storeFull}
+use Rattle.ranges.specs.Store.{stored}
 use Rattle.ranges.specs.Without.{Outside}
 use Rattle.ranges.specs.declared.Width.{Width}
 use Rattle.ranges.proofs.Runs.{runs-of}
 use Rattle.ranges.proofs.Stored.{counted-stored}
 use Rattle.ranges.proofs.Without.{part-covers, length-part}
-use Rattle.reception.specs.Record.{waitingRanges, Passed}
-use Rattle.reception.specs.Data.{keptRanges, dataRanges, advanced}
-use Rattle.reception.specs.History.{Event, Data, Metadata, State, fresh, isAccepted, outcome, step, run, keptBy, kept, acceptedOf, endBy, largestEnd, Missing, rangesOf}
+use Rattle.reception.specs.Record.{recordOf, waitingRanges, Passed}
+use Rattle.reception.specs.Data.{keptRanges, advanced}
+use Rattle.reception.specs.History.{Event, Data, Metadata, State, fresh, isAccepted, step, run, isMetadataCome, keptBy, keptFrom, kept, acceptedOf, Missing, rangesOf}
 use Rattle.reception.proofs.Keeping.{kept-covers, length-kept}
+use Rattle.reception.proofs.Records.{refused-same, step-mark, progress-largest}
 use Rattle.reception.proofs.Standing.{Standing, standing-passed, standing-stored, standing-fresh, after-whole, after-last}
-use Rattle.reception.proofs.data.Answers.{after, data-full, data-taken}
+use Rattle.reception.proofs.data.Answers.{after}
 use Rattle.reception.proofs.data.Accepted.{Taken, taken}
-
--- a refused event leaves the reception as it was
-pub refused-same : (s : State) (e : Event) → isAccepted s e ≡ false → step s e ≡ s
-refused-same s (Data o z) f = rw f
-refused-same s Metadata f = rw f
-
--- so the history goes on as if it had not come
-pub refused-gone : (s : State) (e : Event) (es : List Event) → isAccepted s e ≡ false → run s (e ∷ es) ≡ run s es
-refused-gone s e es f = ap (λ (t : State). run t es) (refused-same s e f)
 
 -- what holds on the way: P are the offsets kept so far, n the events accepted
 pub record Holds (s : State) (N : ℕ) (P : ℕ → Type 0) (n : ℕ) : Type 0 where
@@ -139,9 +128,9 @@ module _ (s : State) (N : ℕ) (P : ℕ → Type 0) (n : ℕ) (h : Holds s N P n
       }
 
 -- the metadata event only clears the mark
-known : (s : State) (N : ℕ) (P : ℕ → Type 0) (n : ℕ) → Holds s N P n
-    → Holds (record { rec = record { progress = s .rec .progress; count = s .rec .count; width = s .rec .width; missing = false }; list = s .list }) N P (suc n)
-known s N P n h =
+mark-cleared : (s : State) (N : ℕ) (P : ℕ → Type 0) (n : ℕ) → Holds s N P n
+    → Holds (record { rec = recordOf (s .rec .progress) (s .rec .count) (s .rec .width) false; list = s .list }) N P (suc n)
+mark-cleared s N P n h =
     let g = h .standing in
     let r = h .runs in
     record {
@@ -153,58 +142,67 @@ known s N P n h =
     }
 
 -- the set that an event adds to the kept offsets
-split-kept : (t m : Bool) (e : Event) (rs : List Range) (x : ℕ) → Covers x (keptBy t m e rs) ↔ (Covers x (keptBy t m e []) ⊎ Covers x rs)
-split-kept true true (Data o z) rs x = (λ k. inr k, ⊎-elim absurd (λ k. k))
-split-kept true false (Data o z) rs x = (⊎-elim (λ k. inl (inl k)) (λ k. inr k), ⊎-elim (⊎-elim (λ k. inl k) absurd) (λ k. inr k))
-split-kept true true Metadata rs x = (λ k. inr k, ⊎-elim absurd (λ k. k))
-split-kept true false Metadata rs x = (λ k. inr k, ⊎-elim absurd (λ k. k))
-split-kept false m e rs x = (λ k. inr k, ⊎-elim absurd (λ k. k))
+split-kept : (t : Bool) (e : Event) (rs : List Range) (x : ℕ) → Covers x (keptBy t e rs) ↔ (Covers x (keptBy t e []) ⊎ Covers x rs)
+split-kept true (Data o z) rs x = (⊎-elim (λ k. inl (inl k)) (λ k. inr k), ⊎-elim (⊎-elim (λ k. inl k) absurd) (λ k. inr k))
+split-kept true Metadata rs x = (λ k. inr k, ⊎-elim absurd (λ k. k))
+split-kept false e rs x = (λ k. inr k, ⊎-elim absurd (λ k. k))
 
--- one event, accepted or refused
+-- one event, accepted or refused; `known` says that the metadata came before
 module _ (s : State) (N : ℕ) (P : ℕ → Type 0) (n : ℕ) (h : Holds s N P n) where
-  fits : (e : Event) (t m : Bool) (r : State) → step s e ≡ r → isAccepted s e ≡ t → s .rec .missing ≡ m
-      → Holds r N (λ x. Covers x (keptBy t m e []) ⊎ P x) (cond t (suc n) n)
-      → Holds (step s e) N (λ x. Covers x (keptBy (isAccepted s e) (s .rec .missing) e []) ⊎ P x) (cond (isAccepted s e) (suc n) n)
-  fits e t m r a b c k = rw (a, b, c) k
+  -- the offsets kept afterwards, and the reception once the metadata is known
+  abbrev with-kept : Bool → Event → ℕ → Type 0
+  with-kept t e x = Covers x (keptBy t e []) ⊎ P x
 
-  nothing : (x : ℕ) → P x ↔ (Covers x [] ⊎ P x)
-  nothing x = (λ k. inr k, ⊎-elim absurd (λ k. k))
+  abbrev now-known : State
+  now-known = record { rec = recordOf (s .rec .progress) (s .rec .count) (s .rec .width) false; list = s .list }
 
-  pub step-holds : (e : Event) → Holds (step s e) N (λ x. Covers x (keptBy (isAccepted s e) (s .rec .missing) e []) ⊎ P x) (cond (isAccepted s e) (suc n) n)
+  fits : (e : Event) (t k : Bool) (r : State) → step s e ≡ r → isAccepted s e ≡ t
+      → Holds r N (with-kept (t && k) e) (cond t (suc n) n)
+      → Holds (step s e) N (with-kept (isAccepted s e && k) e) (cond (isAccepted s e) (suc n) n)
+  fits e t k r a b h = rw (a, b) h
+
+  none-added : (r : State) (m l : ℕ) → m ≤ l → Holds r N P m → Holds r N (λ x. Covers x [] ⊎ P x) l
+  none-added r m l u h = holds-same r N P (λ x. Covers x [] ⊎ P x) m l u (λ x. (λ k. inr k, ⊎-elim absurd (λ k. k))) h
+
+  step-holds : (e : Event) (known : Bool) → s .rec .missing ≡ not known
+      → Holds (step s e) N (with-kept (isAccepted s e && known) e) (cond (isAccepted s e) (suc n) n)
   unfolding next
-  step-holds e = go e (isAccepted s e) refl (s .rec .missing) refl
+  step-holds e known g = go e (isAccepted s e) refl known g
     where
-      now-known : State
-      now-known = record { rec = record { progress = s .rec .progress; count = s .rec .count; width = s .rec .width; missing = false }; list = s .list }
-
-      go : (e : Event) (t : Bool) → isAccepted s e ≡ t → (m : Bool) → s .rec .missing ≡ m
-          → Holds (step s e) N (λ x. Covers x (keptBy (isAccepted s e) (s .rec .missing) e []) ⊎ P x) (cond (isAccepted s e) (suc n) n)
-      go (Data o z) true f true g =
-          let k = taken (s .rec) (s .list) o z (standing-passed s N (h .standing)) f in
-          fits (Data o z) true true (next s N P n h o z k) (rw f) f g (kept-waiting s N P n h o z k g)
+      go : (e : Event) (t : Bool) → isAccepted s e ≡ t → (k : Bool) → s .rec .missing ≡ not k
+          → Holds (step s e) N (with-kept (isAccepted s e && k) e) (cond (isAccepted s e) (suc n) n)
       go (Data o z) true f false g =
-          let k = taken (s .rec) (s .list) o z (standing-passed s N (h .standing)) f in
-          fits (Data o z) true false (next s N P n h o z k) (rw f) f g (kept-known s N P n h o z k g)
-      go Metadata true f true g = fits Metadata true true now-known (rw f) f g (holds-same now-known N P (λ x. Covers x [] ⊎ P x) (suc n) (suc n) (omega arith) nothing (known s N P n h))
-      go Metadata true f false g = fits Metadata true false now-known (rw f) f g (holds-same now-known N P (λ x. Covers x [] ⊎ P x) (suc n) (suc n) (omega arith) nothing (known s N P n h))
-      go (Data o z) false f m g = fits (Data o z) false m s (refused-same s (Data o z) f) f g (holds-same s N P (λ x. Covers x [] ⊎ P x) n n (omega arith) nothing h)
-      go Metadata false f m g = fits Metadata false m s (refused-same s Metadata f) f g (holds-same s N P (λ x. Covers x [] ⊎ P x) n n (omega arith) nothing h)
+          let t = taken (s .rec) (s .list) o z (standing-passed s N (h .standing)) f in
+          fits (Data o z) true false (next s N P n h o z t) (rw f) f (kept-waiting s N P n h o z t g)
+      go (Data o z) true f true g =
+          let t = taken (s .rec) (s .list) o z (standing-passed s N (h .standing)) f in
+          fits (Data o z) true true (next s N P n h o z t) (rw f) f (kept-known s N P n h o z t g)
+      go Metadata true f false g = fits Metadata true false now-known (rw f) f (none-added now-known (suc n) (suc n) (omega arith) (mark-cleared s N P n h))
+      go Metadata true f true g = fits Metadata true true now-known (rw f) f (none-added now-known (suc n) (suc n) (omega arith) (mark-cleared s N P n h))
+      go (Data o z) false f k g = fits (Data o z) false k s (refused-same s (Data o z) f) f (none-added s n n (omega arith) h)
+      go Metadata false f k g = fits Metadata false k s (refused-same s Metadata f) f (none-added s n n (omega arith) h)
 
 -- a list of events
-pub history : (es : List Event) (s : State) (N : ℕ) (P : ℕ → Type 0) (n : ℕ) → Holds s N P n → Holds (run s es) N (λ x. Covers x (kept s es) ⊎ P x) (acceptedOf s es + n)
-history [] s N P n h = holds-same s N P (λ x. Covers x [] ⊎ P x) n (zero + n) (omega arith) (λ x. (λ k. inr k, ⊎-elim absurd (λ k. k))) h
-history (e ∷ es) s N P n h =
+history : (es : List Event) (s : State) (N : ℕ) (P : ℕ → Type 0) (n : ℕ) (known : Bool) → s .rec .missing ≡ not known → Holds s N P n
+    → Holds (run s es) N (λ x. Covers x (keptFrom known s es) ⊎ P x) (acceptedOf s es + n)
+history [] s N P n known g h = none-added s N P n h s n (zero + n) (omega arith) h
+history (e ∷ es) s N P n known g h =
     holds-same (run (step s e) es) N
-    (λ x. Covers x (kept (step s e) es) ⊎ (Covers x (keptBy (isAccepted s e) (s .rec .missing) e []) ⊎ P x))
-    (λ x. Covers x (kept s (e ∷ es)) ⊎ P x)
+    (λ x. Covers x rest ⊎ with-kept s N P n h (isAccepted s e && known) e x)
+    (λ x. Covers x (keptFrom known s (e ∷ es)) ⊎ P x)
     (acceptedOf (step s e) es + cond (isAccepted s e) (suc n) n) (acceptedOf s (e ∷ es) + n)
     (counted-more (isAccepted s e) (acceptedOf (step s e) es))
-    (λ x. let w = split-kept (isAccepted s e) (s .rec .missing) e (kept (step s e) es) x in (
+    (λ x. let w = split-kept (isAccepted s e && known) e rest x in (
       ⊎-elim (λ k. inl (w .1 (inr k))) (⊎-elim (λ k. inl (w .1 (inl k))) (λ k. inr k)),
       ⊎-elim (λ k. ⊎-elim (λ y. inr (inl y)) (λ y. inl y) (w .0 k)) (λ k. inr (inr k)),
     ))
-    (history es (step s e) N (λ x. Covers x (keptBy (isAccepted s e) (s .rec .missing) e []) ⊎ P x) (cond (isAccepted s e) (suc n) n) (step-holds s N P n h e))
+    (history es (step s e) N (with-kept s N P n h (isAccepted s e && known) e) (cond (isAccepted s e) (suc n) n)
+    (known || isMetadataCome s e) (step-mark s e known g) (step-holds s N P n h e known g))
   where
+    -- what the later events keep
+    rest : List Range
+    rest = keptFrom (known || isMetadataCome s e) (step s e) es
+
     counted-more : (t : Bool) (k : ℕ) → k + cond t (suc n) n ≤ cond t (suc k) k + n
     counted-more true k = omega arith
     counted-more false k = omega arith
@@ -217,11 +215,11 @@ module _ (w : Width) (xs : List ℕ) (N : ℕ) (size : length xs ≡ 2 * N) (few
   abbrev reached : State
   reached = run start es
 
-  holds : Holds reached N (λ x. Covers x (kept start es)) (acceptedOf start es)
+  pub holds : Holds reached N (λ x. Covers x (kept start es)) (acceptedOf start es)
   holds =
       holds-same reached N (λ x. Covers x (kept start es) ⊎ ⊥) (λ x. Covers x (kept start es)) (acceptedOf start es + 0) (acceptedOf start es) (omega arith)
       (λ x. (⊎-elim (λ k. k) absurd, λ k. inl k))
-      (history es start N (λ x. ⊥) 0
+      (history es start N (λ x. ⊥) 0 false refl
       (record {
         standing = standing-fresh w xs N size few;
         exact = λ x. (absurd, λ k. let u = k .0 in absurd (omega arith));
@@ -230,12 +228,13 @@ module _ (w : Width) (xs : List ℕ) (N : ℕ) (size : length xs ≡ 2 * N) (few
         runs = omega arith;
       }))
 
+  -- the list's offsets are the missing ones: progress is the largest accepted end
+  pub missing-exact : (x : ℕ) → Covers x (rangesOf reached) ↔ Missing start es x
+  missing-exact x = rw (← progress-largest w xs es) (holds .exact x)
+
   -- the list is exactly the maximal runs of the octets below progress that no kept range covers
   pub missing-runs : RunsOf (Missing start es) (rangesOf reached)
-  missing-runs = runs-of (Missing start es) (rangesOf reached) (holds .standing .whole) (holds .exact)
-
-  pub missing-exact : (x : ℕ) → Covers x (rangesOf reached) ↔ Missing start es x
-  missing-exact = holds .exact
+  missing-runs = runs-of (Missing start es) (rangesOf reached) (holds .standing .whole) missing-exact
 
   -- it is coalesced and ends at or below progress
   pub list-coalesced : Coalesced (rangesOf reached)
@@ -256,71 +255,21 @@ module _ (w : Width) (xs : List ℕ) (N : ℕ) (size : length xs ≡ 2 * N) (few
   pub always-sound : Passed (reached .list) (reached .rec)
   always-sound = standing-passed reached N (holds .standing)
 
--- progress is the largest accepted end
-step-progress : (s : State) (e : Event) → step s e .rec .progress ≡ endBy (isAccepted s e) e (s .rec .progress)
-step-progress s (Data o z) = go (isAccepted s (Data o z)) refl
-  where
-    go : (t : Bool) → isAccepted s (Data o z) ≡ t → step s (Data o z) .rec .progress ≡ endBy (isAccepted s (Data o z)) (Data o z) (s .rec .progress)
-    go true f = rw f (omega arith)
-    go false f = rw f
-step-progress s Metadata = go (isAccepted s Metadata) refl
-  where
-    go : (t : Bool) → isAccepted s Metadata ≡ t → step s Metadata .rec .progress ≡ endBy (isAccepted s Metadata) Metadata (s .rec .progress)
-    go true f = rw f
-    go false f = rw f
-
-larger-end : (t : Bool) (e : Event) (p l : ℕ) → max (endBy t e p) l ≡ max p (endBy t e l)
-larger-end true (Data o z) p l = omega arith
-larger-end true Metadata p l = refl
-larger-end false e p l = refl
-
-progress-from : (es : List Event) (s : State) → run s es .rec .progress ≡ max (s .rec .progress) (largestEnd s es)
-progress-from [] s = omega arith
-progress-from (e ∷ es) s =
-    progress-from es (step s e)
-    ∙ ap (λ (p : ℕ). max p (largestEnd (step s e) es)) (step-progress s e)
-    ∙ larger-end (isAccepted s e) e (s .rec .progress) (largestEnd (step s e) es)
-
-pub progress-largest : (w : Width) (xs : List ℕ) (es : List Event) → run (fresh w xs) es .rec .progress ≡ largestEnd (fresh w xs) es
-progress-largest w xs es = let k = progress-from es (fresh w xs) in omega arith
-
--- what one more event does after any history
+-- what an accepted event does to the set
 module _ (w : Width) (xs : List ℕ) (N : ℕ) (size : length xs ≡ 2 * N) (few : N ≤ 4096) (es : List Event) (o z : ℕ) where
   abbrev before : State
   before = run (fresh w xs) es
 
-  abbrev would : List Range
-  would = dataRanges (before .rec .missing) (before .rec .progress) o (o + z) (rangesOf before)
+  -- an accepted event leaves the ranges that its definition says
+  pub left-by : isAccepted before (Data o z) ≡ true → rangesOf (step before (Data o z)) ≡ after (before .rec) (before .list) o z
+  left-by f = rw f (counted-stored (after (before .rec) (before .list) o z) (before .rec .count) (before .list))
 
-  -- an otherwise valid data event is refused with 1 exactly if its outcome would have more than N ranges
-  pub room-rule : (z ≡ 0 → ⊥) → o + z ≤ 18446744073709551615 → o + z ≤ limitOf (before .rec .width)
-      → (outcome before (Data o z) ≡ storeFull) ↔ (N < length would)
-  room-rule n s t = (to (ltb (capacity (before .list)) (length would)) refl, λ h. sym (data-full (before .rec) (before .list) o z p n s t (lt-ltb (capacity (before .list)) (length would) (omega (arith, cap)))))
-    where
-      p : Passed (before .list) (before .rec)
-      p = always-sound w xs N size few es
-
-      cap : length (before .list) ≡ 2 * N
-      cap = holds w xs N size few es .standing .size
-
-      to : (u : Bool) → ltb (capacity (before .list)) (length would) ≡ u → outcome before (Data o z) ≡ storeFull → N < length would
-      to true e f = let k : capacity (before .list) < length would = ltb-true _ _ e in omega (arith, cap)
-      to false e f =
-          let g = data-taken (before .rec) (before .list) o z p n s t e in
-          absurd (apart (before .rec .missing) (g ∙ f))
-        where
-          apart : (m : Bool) → cond m (accepted (0 ∷ [])) (accepted (1 ∷ [])) ≡ storeFull → ⊥
-          apart true e = omega (arith, ap (λ (o : Outcome). o .number) e)
-          apart false e = omega (arith, ap (λ (o : Outcome). o .number) e)
-
-  -- an accepted event while the metadata is known: the range's offsets leave, those between progress and the offset become missing
+  -- while the metadata is known: the range's offsets leave, those between progress and the offset become missing
   pub effect-kept : isAccepted before (Data o z) ≡ true → before .rec .missing ≡ false → (x : ℕ)
       → Covers x (rangesOf (step before (Data o z))) ↔ ((Covers x (rangesOf before) × Outside o (o + z) x) ⊎ In x (range (before .rec .progress) o))
   effect-kept f m x =
       let h = holds w xs N size few es in
       let t = taken (before .rec) (before .list) o z (always-sound w xs N size few es) f in
       let k = t .some in
-      let e₁ : rangesOf (step before (Data o z)) ≡ would = rw f (counted-stored would (before .rec .count) (before .list)) in
-      let e₂ : would ≡ keptRanges (before .rec .progress) o (o + z) (rangesOf before) = rw m in
-      let e : rangesOf (step before (Data o z)) ≡ keptRanges (before .rec .progress) o (o + z) (rangesOf before) = e₁ ∙ e₂ in
+      let e : rangesOf (step before (Data o z)) ≡ keptRanges (before .rec .progress) o (o + z) (rangesOf before) = left-by f ∙ rw m in
       rw e (kept-covers (before .rec .progress) o (o + z) (rangesOf before) (omega arith) (h .standing .whole) (h .standing .last) x)

@@ -44,15 +44,22 @@ abbrev pub dataRanges : Bool → ℕ → ℕ → ℕ → List Range → List Ran
 dataRanges true p a e rs = waitingRanges (max p e)
 dataRanges false p a e rs = keptRanges p a e rs
 
--- Checks: 10, 8, 12, 2 (length 0), 9, 4 (end above the narrow limit), 1. 1 is given exactly if the resulting list would have more
--- ranges than the capacity.
+-- 9: the end is above 2^64 - 1.
+abbrev pub isTooLong : ℕ → ℕ → Bool
+isTooLong offset size = ltb 18446744073709551615 (offset + size)
+
+-- 1: the resulting list would have more ranges than the capacity.
+abbrev pub isFull : ℕ → List Range → Bool
+isFull room rs = ltb room (length rs)
+
+-- Checks: 10, 8, 12, 2 (length 0), 9, 4 (end above the narrow limit), 1. Accepted, it answers 0 while waiting, noticed, and else 1, kept.
 abbrev pub dataOutcome : Reception → List ℕ → ℕ → ℕ → Outcome
 dataOutcome rec xs offset size =
     checked xs rec
     (cond (eqb size 0) emptySegment
-    (cond (ltb 18446744073709551615 (offset + size)) rangeTooLong
+    (cond (isTooLong offset size) rangeTooLong
     (cond (ltb (limitOf (rec .width)) (offset + size)) largeFileSegmentNotSupported
-    (cond (ltb (capacity xs) (length (dataRanges (rec .missing) (rec .progress) offset (offset + size) (counted xs (rec .count))))) storeFull
+    (cond (isFull (capacity xs) (dataRanges (rec .missing) (rec .progress) offset (offset + size) (counted xs (rec .count)))) storeFull
     (cond (rec .missing) (accepted (0 ∷ [])) (accepted (1 ∷ [])))))))
 
 -- The record that an accepted event leaves: progress becomes the larger of itself and the end.

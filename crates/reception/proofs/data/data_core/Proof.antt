@@ -3,7 +3,9 @@
 use native.Mathlib.Omega.{arith}
 use mathlib.Core.Path.{_≡_, sym, ap, _∙_}
 use lib.ListN.{length}
+use Prim.Native.Nat.{_+_}
 use borrow.Author.Needs.{needs}
+use borrow.Author.Tests.{lt-ltb, le-ltb}
 use mathlib.Core.List.{[], _∷_}
 use Rattle.ranges.specs.Store.{counted, capacity}
 use Rattle.ranges.specs.Outcome.{accepted, storeFull, emptySegment, largeFileSegmentNotSupported, notCoalesced, rangeTooLong, badStore, scopeBelowList}
@@ -71,7 +73,7 @@ returns-5 c = let a = c .before .before .before .before .before .before .before 
     let rec : Reception = recordOf (a .progress) (a .count) (a .width) (a .missing) in
     let f = c .before .before .before .before .before .first-fault .ensures in
     let p = told-passed xs rec (λ e. c .before .before .before .before .if1 .left (f ∙ e)) (λ e. c .before .before .before .if2 .left (f ∙ e)) (λ e. c .before .before .if3 .left (f ∙ e)) in
-    answer rec xs (a .offset) (a .length) rangeTooLong (data-long rec xs (a .offset) (a .length) p (c .before .if4 .left) (omega arith))
+    answer rec xs (a .offset) (a .length) rangeTooLong (data-long rec xs (a .offset) (a .length) p (c .before .if4 .left) (rw (lt-ltb 18446744073709551615 (a .offset + a .length) (omega arith))))
 
 add-end : tie.Need-add-end
 add-end c = search needs
@@ -88,7 +90,7 @@ returns-6 c = let a = c .before .before .before .before .before .before .before 
     let rec : Reception = recordOf (a .progress) (a .count) (a .width) (a .missing) in
     let f = c .before .before .before .before .before .before .before .first-fault .ensures in
     let p = told-passed xs rec (λ e. c .before .before .before .before .before .before .if1 .left (f ∙ e)) (λ e. c .before .before .before .before .before .if2 .left (f ∙ e)) (λ e. c .before .before .before .before .if3 .left (f ∙ e)) in
-    answer rec xs (a .offset) (a .length) largeFileSegmentNotSupported (data-large rec xs (a .offset) (a .length) p (c .before .before .before .if4 .left) (omega arith) (omega (arith, c .before .limit .ensures, c .if6 .taken)))
+    answer rec xs (a .offset) (a .length) largeFileSegmentNotSupported (data-large rec xs (a .offset) (a .length) p (c .before .before .before .if4 .left) (rw (le-ltb 18446744073709551615 (a .offset + a .length) (omega arith))) (omega (arith, c .before .limit .ensures, c .if6 .taken)))
 
 change-requires : tie.Need-change-requires
 change-requires c κs = let a = c .before .before .before .before .before .before .before .before .before .before .before .args in
@@ -119,7 +121,7 @@ returns-7 c = let a = c .before .before .before .before .before .before .before 
     let p = told-passed xs rec (λ e. c .before .before .before .before .before .before .before .before .before .before .before .before .if1 .left (f ∙ e)) (λ e. c .before .before .before .before .before .before .before .before .before .before .before .if2 .left (f ∙ e)) (λ e. c .before .before .before .before .before .before .before .before .before .before .if3 .left (f ∙ e)) in
     let k = c .before .before .before .before .change .ensures in
     let t = full-told (capacity xs) (after rec xs (a .offset) (a .length)) (sym (c .enum-told .given .1) ∙ k .0) in
-    let w = answer rec xs (a .offset) (a .length) storeFull (data-full rec xs (a .offset) (a .length) p (c .before .before .before .before .before .before .before .before .before .if4 .left) (omega arith) (omega (arith, c .before .before .before .before .before .before .before .limit .ensures, c .before .before .before .before .before .before .if6 .left)) t) in
+    let w = answer rec xs (a .offset) (a .length) storeFull (data-full rec xs (a .offset) (a .length) p (c .before .before .before .before .before .before .before .before .before .if4 .left) (rw (le-ltb 18446744073709551615 (a .offset + a .length) (omega arith))) (omega (arith, c .before .before .before .before .before .before .before .limit .ensures, c .before .before .before .before .before .before .if6 .left)) (rw t)) in
     (w .0, (w .1 .0, (k .1 ∙ rw t) ∙ w .1 .1))
 
 same-length-8 : tie.Need-same-length-8
@@ -134,7 +136,7 @@ returns-8 c = let a = c .before .before .before .before .before .before .before 
     let k = c .before .before .before .before .before .before .before .change .ensures in
     let t = cut-told (capacity xs) _ (after rec xs (a .offset) (a .length)) (sym (c .before .before .before .left .given .1) ∙ k .0) in
     let m : a .missing ≡ true = c .if7 .taken in
-    let o = data-taken rec xs (a .offset) (a .length) p (c .before .before .before .before .before .before .before .before .before .before .before .before .if4 .left) (omega arith) (omega (arith, c .before .before .before .before .before .before .before .before .before .before .limit .ensures, c .before .before .before .before .before .before .before .before .before .if6 .left)) (t .0) in
+    let o = data-taken rec xs (a .offset) (a .length) p (c .before .before .before .before .before .before .before .before .before .before .before .before .if4 .left) (rw (le-ltb 18446744073709551615 (a .offset + a .length) (omega arith))) (omega (arith, c .before .before .before .before .before .before .before .before .before .before .limit .ensures, c .before .before .before .before .before .before .before .before .before .if6 .left)) (rw (t .0)) in
     let w = answer rec xs (a .offset) (a .length) (accepted (0 ∷ [])) (ap (λ (t : Bool). cond t (accepted (0 ∷ [])) (accepted (1 ∷ []))) (sym m) ∙ o) in
     (w .0, (rw (c .before .larger .ensures, t .1) (w .1 .0), (k .1 ∙ rw (t .0)) ∙ w .1 .1))
 
@@ -150,7 +152,7 @@ returns-9 c = let a = c .before .before .before .before .before .before .before 
     let k = c .before .before .before .before .before .before .before .change .ensures in
     let t = cut-told (capacity xs) _ (after rec xs (a .offset) (a .length)) (sym (c .before .before .before .left .given .1) ∙ k .0) in
     let m : a .missing ≡ false = c .if7 .left in
-    let o = data-taken rec xs (a .offset) (a .length) p (c .before .before .before .before .before .before .before .before .before .before .before .before .if4 .left) (omega arith) (omega (arith, c .before .before .before .before .before .before .before .before .before .before .limit .ensures, c .before .before .before .before .before .before .before .before .before .if6 .left)) (t .0) in
+    let o = data-taken rec xs (a .offset) (a .length) p (c .before .before .before .before .before .before .before .before .before .before .before .before .if4 .left) (rw (le-ltb 18446744073709551615 (a .offset + a .length) (omega arith))) (omega (arith, c .before .before .before .before .before .before .before .before .before .before .limit .ensures, c .before .before .before .before .before .before .before .before .before .if6 .left)) (rw (t .0)) in
     let w = answer rec xs (a .offset) (a .length) (accepted (1 ∷ [])) (ap (λ (t : Bool). cond t (accepted (0 ∷ [])) (accepted (1 ∷ []))) (sym m) ∙ o) in
     (w .0, (rw (c .before .larger .ensures, t .1) (w .1 .0), (k .1 ∙ rw (t .0)) ∙ w .1 .1))
 
