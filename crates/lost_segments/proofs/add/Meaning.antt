@@ -61,7 +61,7 @@ module _ (xs : List ℕ) (st : Store) (s e : ℕ) where
           (t, ap (λ (o : Outcome). getD (o .values) 0 0) (sym f ∙ taken t))
 
   -- the counted ranges afterwards: the old ones, and behind them the new one
-  pub add-ranges : (m : ℕ) → addOutcome xs st s e ≡ accepted (m ∷ []) → counted (addList xs st s e) m ≡ old ++ (range s e ∷ [])
+  pub add-ranges : (m : ℕ) → addOutcome xs st s e ≡ accepted (m ∷ []) → counted (addList xs st s e) m ≡ counted xs (st .count) ++ (range s e ∷ [])
   add-ranges m f =
       let w = add-accepted m .0 f in
       let g = good xs (st .count) top (w .0 .good) in
@@ -72,7 +72,7 @@ module _ (xs : List ℕ) (st : Store) (s e : ℕ) where
       ∙ rw k (counted-stored (old ++ (range s e ∷ [])) (st .count) xs)
 
   -- so their offsets are the old ones and those of the new range
-  pub add-covers : (m : ℕ) → addOutcome xs st s e ≡ accepted (m ∷ []) → (x : ℕ) → Covers x (counted (addList xs st s e) m) ↔ (Covers x old ⊎ In x (range s e))
+  pub add-covers : (m : ℕ) → addOutcome xs st s e ≡ accepted (m ∷ []) → (x : ℕ) → Covers x (counted (addList xs st s e) m) ↔ (Covers x (counted xs (st .count)) ⊎ In x (range s e))
   add-covers m f x =
       rw (add-ranges m f) (
         λ h. ⊎-elim (λ g. inl g) (λ g. inr (⊎-elim (λ u. u) absurd g)) (covers-append x old (range s e ∷ []) h),
