@@ -17,7 +17,9 @@ use Rattle.ranges.proofs.Flat.{length-counted}
 use Rattle.ranges.proofs.Stored.{counted-stored}
 use Rattle.ranges.proofs.Covering.{covers-append, append-covers}
 use Rattle.lost_segments.specs.declared.Store.{Store}
+use Rattle.lost_segments.specs.Slots.{Slots}
 use Rattle.lost_segments.specs.Add.{addOutcome, addList, Takes}
+use Rattle.lost_segments.proofs.Behind.{stored-slots}
 
 module _ (xs : List ℕ) (st : Store) (s e : ℕ) where
   abbrev top : ℕ
@@ -25,6 +27,9 @@ module _ (xs : List ℕ) (st : Store) (s e : ℕ) where
 
   abbrev old : List Range
   old = counted xs (st .count)
+
+  abbrev more : List Range
+  more = old ++ (range s e ∷ [])
 
   taken : Takes xs st s e → addOutcome xs st s e ≡ accepted ((st .count + 1) ∷ [])
   taken t =
@@ -60,16 +65,21 @@ module _ (xs : List ℕ) (st : Store) (s e : ℕ) where
           let t = takes (ap (λ (o : Outcome). o .number) f) in
           (t, ap (λ (o : Outcome). getD (o .values) 0 0) (sym f ∙ taken t))
 
-  -- the counted ranges afterwards: the old ones, and behind them the new one
-  pub add-ranges : (m : ℕ) → addOutcome xs st s e ≡ accepted (m ∷ []) → counted (addList xs st s e) m ≡ counted xs (st .count) ++ (range s e ∷ [])
-  add-ranges m f =
+  -- the list afterwards holds one range more
+  after : (m : ℕ) → addOutcome xs st s e ≡ accepted (m ∷ []) → (addList xs st s e ≡ stored more (st .count) xs) × (m ≡ length more)
+  after m f =
       let w = add-accepted m .0 f in
       let g = good xs (st .count) top (w .0 .good) in
-      let l : length (old ++ (range s e ∷ [])) ≡ length old + 1 = length-append old (range s e ∷ []) in
+      let l : length more ≡ length old + 1 = length-append old (range s e ∷ []) in
       let n = length-counted xs (st .count) (g .room) in
-      let k : m ≡ length (old ++ (range s e ∷ [])) = omega (arith, w .1) in
-      ap (λ (o : Outcome). counted (lent o (stored (old ++ (range s e ∷ [])) (st .count) xs) xs) m) f
-      ∙ rw k (counted-stored (old ++ (range s e ∷ [])) (st .count) xs)
+      (ap (λ (o : Outcome). lent o (stored more (st .count) xs) xs) f, omega (arith, w .1))
+
+  -- the counted ranges afterwards: the old ones, and behind them the new one
+  pub add-ranges : (m : ℕ) → addOutcome xs st s e ≡ accepted (m ∷ []) → counted (addList xs st s e) m ≡ counted xs (st .count) ++ (range s e ∷ [])
+  add-ranges m f = let w = after m f in rw (w .0, w .1) (counted-stored more (st .count) xs)
+
+  pub add-slots : (m : ℕ) → addOutcome xs st s e ≡ accepted (m ∷ []) → Slots xs (st .count) (addList xs st s e) m
+  add-slots m f = let w = after m f in rw (w .0, w .1) (stored-slots more (st .count) xs)
 
   -- so their offsets are the old ones and those of the new range
   pub add-covers : (m : ℕ) → addOutcome xs st s e ≡ accepted (m ∷ []) → (x : ℕ) → Covers x (counted (addList xs st s e) m) ↔ (Covers x (counted xs (st .count)) ⊎ In x (range s e))

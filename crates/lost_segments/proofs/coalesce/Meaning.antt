@@ -13,12 +13,14 @@ use borrow.Author.Tests.{ltb-true, ltb-false}
 use Rattle.ranges.specs.Range.{Range, Above, Coalesced, In, Covers, Same}
 use Rattle.ranges.specs.Run.{RunsOf}
 use Rattle.ranges.proofs.Runs.{runs-of}
-use Rattle.ranges.specs.Store.{counted, limitOf, isBadStore}
+use Rattle.ranges.specs.Store.{counted, limitOf, isBadStore, stored}
 use Rattle.ranges.specs.Outcome.{Outcome, accepted}
 use Rattle.ranges.proofs.Covering.{above-less}
 use Rattle.ranges.proofs.Stored.{counted-stored}
 use Rattle.lost_segments.specs.declared.Store.{Store}
+use Rattle.lost_segments.specs.Slots.{Slots}
 use Rattle.lost_segments.specs.Coalesce.{joined, absorb, insert, join, gather, maximalRuns, coalesceOutcome, coalesceList}
+use Rattle.lost_segments.proofs.Behind.{stored-slots}
 
 absorb-above : (d : ℕ) (r : Range) (qs : List Range) → d ≤ r .start → r .start < r .end → Above d qs → Above d (absorb r qs)
 absorb-above d r [] h k a = (h, k, tt)
@@ -127,22 +129,27 @@ module _ (xs : List ℕ) (st : Store) where
       to true e m f = let z = ap (λ (o : Outcome). o .number) f in absurd (omega (arith, rw e at z))
       to false e m f = e
 
-  after : (m : ℕ) → coalesceOutcome xs st ≡ accepted (m ∷ []) → (counted (coalesceList xs st) m ≡ runs) × (m ≡ length runs)
+  after : (m : ℕ) → coalesceOutcome xs st ≡ accepted (m ∷ []) → (coalesceList xs st ≡ stored runs (st .count) xs) × (m ≡ length runs)
   after m f =
       let e = coalesce-accepted .0 (m, f) in
-      let n : m ≡ length runs = ap (λ (o : Outcome). getD (o .values) 0 0) (sym f) ∙ rw e in
-      (rw (e, n) (counted-stored runs (st .count) xs), n)
+      (rw e, ap (λ (o : Outcome). getD (o .values) 0 0) (sym f) ∙ rw e)
+
+  ranges : (m : ℕ) → coalesceOutcome xs st ≡ accepted (m ∷ []) → counted (coalesceList xs st) m ≡ runs
+  ranges m f = let w = after m f in rw (w .0, w .1) (counted-stored runs (st .count) xs)
 
   -- accepted, with the count m that the answer carries: m ranges are counted, they are coalesced, they have exactly the offsets that
   -- the pairs had, and so they are the maximal runs of that set
   pub coalesce-count : (m : ℕ) → coalesceOutcome xs st ≡ accepted (m ∷ []) → length (counted (coalesceList xs st) m) ≡ m
-  coalesce-count m f = let w = after m f in ap length (w .0) ∙ sym (w .1)
+  coalesce-count m f = ap length (ranges m f) ∙ sym (after m f .1)
 
   pub coalesce-coalesced : (m : ℕ) → coalesceOutcome xs st ≡ accepted (m ∷ []) → Coalesced (counted (coalesceList xs st) m)
-  coalesce-coalesced m f = rw (after m f .0) (runs-coalesced (counted xs (st .count)))
+  coalesce-coalesced m f = rw (ranges m f) (runs-coalesced (counted xs (st .count)))
 
   pub coalesce-covers : (m : ℕ) → coalesceOutcome xs st ≡ accepted (m ∷ []) → Same (counted (coalesceList xs st) m) (counted xs (st .count))
-  coalesce-covers m f x = rw (after m f .0) (runs-covers x (counted xs (st .count)))
+  coalesce-covers m f x = rw (ranges m f) (runs-covers x (counted xs (st .count)))
 
   pub coalesce-runs : (m : ℕ) → coalesceOutcome xs st ≡ accepted (m ∷ []) → RunsOf (λ x. Covers x (counted xs (st .count))) (counted (coalesceList xs st) m)
   coalesce-runs m f = runs-of (λ x. Covers x (counted xs (st .count))) (counted (coalesceList xs st) m) (coalesce-coalesced m f) (coalesce-covers m f)
+
+  pub coalesce-slots : (m : ℕ) → coalesceOutcome xs st ≡ accepted (m ∷ []) → Slots xs (st .count) (coalesceList xs st) m
+  coalesce-slots m f = let w = after m f in rw (w .0, w .1) (stored-slots runs (st .count) xs)

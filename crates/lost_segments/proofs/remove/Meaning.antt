@@ -21,7 +21,9 @@ use Rattle.ranges.proofs.Flat.{length-counted}
 use Rattle.ranges.proofs.Stored.{counted-stored, stored-same}
 use Rattle.ranges.proofs.Without.{without-covers, without-coalesced, without-none, length-without}
 use Rattle.lost_segments.specs.declared.Store.{Store}
+use Rattle.lost_segments.specs.Slots.{Slots}
 use Rattle.lost_segments.specs.Remove.{removeFrom, removeOutcome, removeList, Passes, Splits}
+use Rattle.lost_segments.proofs.Behind.{stored-slots}
 use Rattle.lost_segments.proofs.remove.Split.{split-of, split-length}
 
 -- outcomes of different numbers or values differ
@@ -219,22 +221,28 @@ module _ (xs : List ℕ) (st : Store) (a b : ℕ) where
   leaves : (o : Outcome) → removeOutcome xs st a b ≡ o → o .number ≡ 0 → removeList xs st a b ≡ stored left (st .count) xs
   leaves o e z = ap (λ (o : Outcome). lent o (stored left (st .count) xs) xs) e ∙ rw z
 
-  after : (m : ℕ) → removeOutcome xs st a b ≡ accepted (1 ∷ m ∷ []) → Passes xs st a b × (counted (removeList xs st a b) m ≡ left) × (m ≡ length left)
+  after : (m : ℕ) → removeOutcome xs st a b ≡ accepted (1 ∷ m ∷ []) → Passes xs st a b × (removeList xs st a b ≡ stored left (st .count) xs) × (m ≡ length left)
   after m e =
       let p = passed (inl (omega (arith, number-of e))) in
       let w = told-true m (removeOutcome xs st a b) (end p) e in
-      (p, rw (leaves (accepted (1 ∷ m ∷ [])) e refl, w .2) (counted-stored left (st .count) xs), w .2)
+      (p, leaves (accepted (1 ∷ m ∷ [])) e refl, w .2)
+
+  ranges : (m : ℕ) → removeOutcome xs st a b ≡ accepted (1 ∷ m ∷ []) → counted (removeList xs st a b) m ≡ left
+  ranges m e = let w = after m e in rw (w .1, w .2) (counted-stored left (st .count) xs)
 
   -- after true, with the count m that it carries: m ranges are counted, they are coalesced, and exactly the offsets of (a, b) have left
   pub remove-count : (m : ℕ) → removeOutcome xs st a b ≡ accepted (1 ∷ m ∷ []) → length (counted (removeList xs st a b) m) ≡ m
-  remove-count m e = let w = after m e in ap length (w .1) ∙ sym (w .2)
+  remove-count m e = ap length (ranges m e) ∙ sym (after m e .2)
 
   pub remove-coalesced : (m : ℕ) → removeOutcome xs st a b ≡ accepted (1 ∷ m ∷ []) → Coalesced (counted (removeList xs st a b) m)
-  remove-coalesced m e = let w = after m e in rw (w .1) (without-coalesced a b (w .0 .ordered) rs (w .0 .coalesced))
+  remove-coalesced m e = let p = after m e .0 in rw (ranges m e) (without-coalesced a b (p .ordered) rs (p .coalesced))
 
   pub remove-covers : (m : ℕ) → removeOutcome xs st a b ≡ accepted (1 ∷ m ∷ [])
       → (x : ℕ) → Covers x (counted (removeList xs st a b) m) ↔ (Covers x (counted xs (st .count)) × Outside a b x)
-  remove-covers m e x = let w = after m e in rw (w .1) (without-covers a b x rs)
+  remove-covers m e x = rw (ranges m e) (without-covers a b x rs)
+
+  pub remove-slots : (m : ℕ) → removeOutcome xs st a b ≡ accepted (1 ∷ m ∷ []) → Slots xs (st .count) (removeList xs st a b) m
+  remove-slots m e = let w = after m e in rw (w .1, w .2) (stored-slots left (st .count) xs)
 
   -- after false nothing changed
   pub remove-nothing : removeOutcome xs st a b ≡ accepted (0 ∷ []) → removeList xs st a b ≡ xs
