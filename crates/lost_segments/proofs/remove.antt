@@ -1,3 +1,4 @@
 pub mod Found
 pub mod Answers
+pub mod Split
 pub mod Meaning

@@ -1,6 +1,7 @@
 -- add appends, without looking for overlap (document 01, "Ranges and the store").
-use Prim.Native.Nat.{ℕ, _+_}
-use mathlib.Core.Bool.{cond}
+use Prim.Native.Nat.{ℕ, _+_, _≤_, _<_}
+use mathlib.Core.Path.{_≡_}
+use mathlib.Core.Bool.{false, cond}
 use mathlib.Core.List.{List, [], _∷_, _++_}
 use lib.Dec.{ltb, eqb}
 use Rattle.ranges.specs.Range.{range}
@@ -32,3 +33,11 @@ addOutcome xs st s e =
 -- The list afterwards: the range stands behind the counted ones.
 abbrev pub addList : List ℕ → Store → ℕ → ℕ → List ℕ
 addList xs st s e = lent (addOutcome xs st s e) (stored (counted xs (st .count) ++ (range s e ∷ [])) (st .count) xs) xs
+
+-- What add takes: the store is not bad, the range is nonempty, both its numbers are within the width, and count is below capacity.
+pub record Takes (xs : List ℕ) (st : Store) (s e : ℕ) : Type 0 where
+  pub good : isBadStore xs (st .count) (limitOf (st .width)) ≡ false
+  pub nonempty : s < e
+  pub start-within : s ≤ limitOf (st .width)
+  pub end-within : e ≤ limitOf (st .width)
+  pub room : st .count < capacity xs

@@ -4,3 +4,4 @@ pub mod Coalesce
 pub mod SegmentInStore
 pub mod WriteSegmentsToBytes
 pub mod Inner
+pub mod Slots

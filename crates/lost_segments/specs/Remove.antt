@@ -1,10 +1,11 @@
 -- remove takes the offsets of (a, b) out of a coalesced list (document 01, "Ranges and the store").
-use Prim.Native.Nat.{ℕ}
-use mathlib.Core.Bool.{cond}
-use mathlib.Core.List.{List, [], _∷_}
+use Prim.Native.Nat.{ℕ, _≤_, _<_}
+use mathlib.Core.Path.{_≡_}
+use mathlib.Core.Bool.{false, cond}
+use mathlib.Core.List.{List, [], _∷_, List·Memᴰ}
 use lib.ListN.{length}
 use lib.Dec.{ltb, eqb}
-use Rattle.ranges.specs.Range.{Range, some, inside, shares, isCoalesced}
+use Rattle.ranges.specs.Range.{Range, Coalesced, some, inside, shares, isCoalesced}
 use Rattle.ranges.specs.Without.{without}
 use Rattle.ranges.specs.Store.{counted, capacity, limitOf, isBadStore, eitherAbove, stored}
 use Rattle.ranges.specs.Outcome.{Outcome, accepted, lent, storeFull, emptySegment, startLargerThanEnd, largeFileSegmentNotSupported, invalidSegmentBoundary, notCoalesced, badStore}
@@ -45,3 +46,15 @@ removeOutcome xs st a b =
 -- The list afterwards: an accepted call leaves the list without the offsets of (a, b), whether it had any of them or none.
 abbrev pub removeList : List ℕ → Store → ℕ → ℕ → List ℕ
 removeList xs st a b = lent (removeOutcome xs st a b) (stored (without a b (counted xs (st .count))) (st .count) xs) xs
+
+-- The checks 10, 4, 2, 3 and 8 are passed.
+pub record Passes (xs : List ℕ) (st : Store) (a b : ℕ) : Type 0 where
+  pub good : isBadStore xs (st .count) (limitOf (st .width)) ≡ false
+  pub a-within : a ≤ limitOf (st .width)
+  pub b-within : b ≤ limitOf (st .width)
+  pub ordered : a < b
+  pub coalesced : Coalesced (counted xs (st .count))
+
+-- Removing (a, b) splits a range of the list: the range starts below a and ends above b.
+abbrev pub Splits : ℕ → ℕ → List Range → Type 0
+Splits a b rs = (r : Range) × List·Memᴰ r rs × (r .start < a) × (b < r .end)

@@ -1,19 +1,26 @@
--- What coalesce leaves: a coalesced list with exactly the offsets of the pairs, so the list of the maximal runs of their union.
-use mathlib.Core.Path.{_≡_, refl}
+-- What coalesce leaves: ranges that are coalesced and have exactly the offsets of the counted pairs, so the maximal runs of their
+-- union. Only 10 refuses.
+use mathlib.Core.Path.{_≡_, refl, sym, ap, _∙_}
 use mathlib.Core.Bool.{Bool, true, false}
 use mathlib.Core.List.{List, [], _∷_}
 use mathlib.Core.Logic.{_⊎_, inl, inr, ⊎-elim, _↔_}
 use Prim.Native.Nat.{ℕ, suc, _≤_, _<_}
 use native.Mathlib.Omega.{arith}
 use native.Mathlib.Decide.{decLt}
+use lib.ListN.{length, getD}
 use lib.Dec.{ltb}
 use borrow.Author.Tests.{ltb-true, ltb-false}
 use Rattle.ranges.specs.Range.{Range, Above, Coalesced, In, Covers, Same}
 use Rattle.ranges.specs.Run.{RunsOf}
 use Rattle.ranges.proofs.Runs.{runs-of}
-use Rattle.ranges.proofs.Unique.{unique}
+use Rattle.ranges.specs.Store.{counted, limitOf, isBadStore, stored}
+use Rattle.ranges.specs.Outcome.{Outcome, accepted}
 use Rattle.ranges.proofs.Covering.{above-less}
-use Rattle.lost_segments.specs.Coalesce.{joined, absorb, insert, join, gather, maximalRuns}
+use Rattle.ranges.proofs.Stored.{counted-stored}
+use Rattle.lost_segments.specs.declared.Store.{Store}
+use Rattle.lost_segments.specs.Slots.{Slots}
+use Rattle.lost_segments.specs.Coalesce.{joined, absorb, insert, join, gather, maximalRuns, coalesceOutcome, coalesceList}
+use Rattle.lost_segments.proofs.Behind.{stored-slots}
 
 absorb-above : (d : ℕ) (r : Range) (qs : List Range) → d ≤ r .start → r .start < r .end → Above d qs → Above d (absorb r qs)
 absorb-above d r [] h k a = (h, k, tt)
@@ -109,11 +116,40 @@ pub runs-covers : (x : ℕ) (rs : List Range) → Covers x (maximalRuns rs) ↔ 
 unfolding maximalRuns
 runs-covers x rs = let i = gather-covers x [] rs tt in (λ h. ⊎-elim absurd (λ g. g) (i .0 h), λ h. i .1 (inr h))
 
--- so it is the list of the maximal runs of the union of the pairs, and the only coalesced list with these offsets
-pub runs-maximal : (rs : List Range) → RunsOf (λ x. Covers x rs) (maximalRuns rs)
-runs-maximal rs = runs-of (λ x. Covers x rs) (maximalRuns rs) (runs-coalesced rs) (λ x. runs-covers x rs)
+module _ (xs : List ℕ) (st : Store) where
+  abbrev runs : List Range
+  runs = maximalRuns (counted xs (st .count))
 
-pub runs-only : (rs qs : List Range) → Coalesced qs → Same qs rs → qs ≡ maximalRuns rs
-runs-only rs qs s f =
-    unique qs (maximalRuns rs) s (runs-coalesced rs)
-    (λ x. (λ h. runs-covers x rs .1 (f x .0 h), λ h. f x .1 (runs-covers x rs .0 h)))
+  -- only 10 refuses
+  pub coalesce-accepted : ((m : ℕ) × (coalesceOutcome xs st ≡ accepted (m ∷ []))) ↔ (isBadStore xs (st .count) (limitOf (st .width)) ≡ false)
+  coalesce-accepted = (λ h. to (isBadStore xs (st .count) (limitOf (st .width))) refl (h .0) (h .1), λ e. (length runs, rw e))
+    where
+      to : (t : Bool) → isBadStore xs (st .count) (limitOf (st .width)) ≡ t → (m : ℕ) → coalesceOutcome xs st ≡ accepted (m ∷ [])
+          → isBadStore xs (st .count) (limitOf (st .width)) ≡ false
+      to true e m f = let z = ap (λ (o : Outcome). o .number) f in absurd (omega (arith, rw e at z))
+      to false e m f = e
+
+  after : (m : ℕ) → coalesceOutcome xs st ≡ accepted (m ∷ []) → (coalesceList xs st ≡ stored runs (st .count) xs) × (m ≡ length runs)
+  after m f =
+      let e = coalesce-accepted .0 (m, f) in
+      (rw e, ap (λ (o : Outcome). getD (o .values) 0 0) (sym f) ∙ rw e)
+
+  ranges : (m : ℕ) → coalesceOutcome xs st ≡ accepted (m ∷ []) → counted (coalesceList xs st) m ≡ runs
+  ranges m f = let w = after m f in rw (w .0, w .1) (counted-stored runs (st .count) xs)
+
+  -- accepted, with the count m that the answer carries: m ranges are counted, they are coalesced, they have exactly the offsets that
+  -- the pairs had, and so they are the maximal runs of that set
+  pub coalesce-count : (m : ℕ) → coalesceOutcome xs st ≡ accepted (m ∷ []) → length (counted (coalesceList xs st) m) ≡ m
+  coalesce-count m f = ap length (ranges m f) ∙ sym (after m f .1)
+
+  pub coalesce-coalesced : (m : ℕ) → coalesceOutcome xs st ≡ accepted (m ∷ []) → Coalesced (counted (coalesceList xs st) m)
+  coalesce-coalesced m f = rw (ranges m f) (runs-coalesced (counted xs (st .count)))
+
+  pub coalesce-covers : (m : ℕ) → coalesceOutcome xs st ≡ accepted (m ∷ []) → Same (counted (coalesceList xs st) m) (counted xs (st .count))
+  coalesce-covers m f x = rw (ranges m f) (runs-covers x (counted xs (st .count)))
+
+  pub coalesce-runs : (m : ℕ) → coalesceOutcome xs st ≡ accepted (m ∷ []) → RunsOf (λ x. Covers x (counted xs (st .count))) (counted (coalesceList xs st) m)
+  coalesce-runs m f = runs-of (λ x. Covers x (counted xs (st .count))) (counted (coalesceList xs st) m) (coalesce-coalesced m f) (coalesce-covers m f)
+
+  pub coalesce-slots : (m : ℕ) → coalesceOutcome xs st ≡ accepted (m ∷ []) → Slots xs (st .count) (coalesceList xs st) m
+  coalesce-slots m f = let w = after m f in rw (w .0, w .1) (stored-slots runs (st .count) xs)

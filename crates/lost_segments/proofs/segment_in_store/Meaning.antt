@@ -1,5 +1,6 @@
--- segment_in_store says yes exactly if some stored (s, e) has a at least s and b at most e, whatever (a, b) is.
-use mathlib.Core.Path.{_≡_, refl, ap}
+-- segment_in_store says yes exactly if some stored (s, e) has a at least s and b at most e, whatever (a, b) is, and no exactly if
+-- none has.
+use mathlib.Core.Path.{_≡_, refl, sym, ap, _∙_}
 use mathlib.Core.Bool.{Bool, true, false}
 use mathlib.Core.List.{List, [], _∷_}
 use mathlib.Core.Logic.{_↔_}
@@ -28,3 +29,17 @@ in-store-yes xs st a b e = (λ f. to (some (inside a b) rs) refl f, λ w. rw (e,
     to false g f =
         let h : accepted (0 ∷ []) ≡ accepted (1 ∷ []) = rw (e, g) at f in
         absurd (omega (arith, ap (λ (o : Outcome). getD (o .values) 0 0) h))
+
+pub in-store-no : (xs : List ℕ) (st : Store) (a b : ℕ) → isBadStore xs (st .count) (limitOf (st .width)) ≡ false
+    → (inStoreOutcome xs st a b ≡ accepted (0 ∷ [])) ↔ (Held a b (counted xs (st .count)) → ⊥)
+in-store-no xs st a b e = (to, λ f. from (some (inside a b) rs) refl f)
+  where
+    rs : List Range
+    rs = counted xs (st .count)
+
+    to : inStoreOutcome xs st a b ≡ accepted (0 ∷ []) → Held a b rs → ⊥
+    to f w = omega (arith, ap (λ (o : Outcome). getD (o .values) 0 0) (sym f ∙ in-store-yes xs st a b e .1 w))
+
+    from : (t : Bool) → some (inside a b) rs ≡ t → (Held a b rs → ⊥) → inStoreOutcome xs st a b ≡ accepted (0 ∷ [])
+    from true g f = absurd (f (in-store-yes xs st a b e .0 (rw (e, g))))
+    from false g f = rw (e, g)

@@ -1,0 +1,90 @@
+-- What add takes, and what it leaves: the counted ranges are the old ones and behind them the new one.
+use mathlib.Core.Path.{_≡_, refl, sym, ap, _∙_}
+use mathlib.Core.Bool.{Bool, true, false}
+use mathlib.Core.List.{List, [], _∷_, _++_}
+use mathlib.Core.Logic.{_⊎_, inl, inr, ⊎-elim, _↔_}
+use Prim.Native.Nat.{ℕ, _+_, _≤_, _<_}
+use native.Mathlib.Omega.{arith}
+use lib.ListN.{length, getD, length-append}
+use lib.Dec.{ltb, eqb}
+use borrow.Author.Tests.{eqb-false, ltb-false, ne-eqb, le-ltb}
+use Rattle.ranges.specs.Range.{Range, range, In, Covers}
+use Rattle.ranges.specs.Store.{counted, capacity, limitOf, isBadStore, eitherAbove, stored}
+use Rattle.ranges.specs.Outcome.{Outcome, accepted, lent}
+use Rattle.ranges.proofs.Test.{or-false}
+use Rattle.ranges.proofs.Good.{good}
+use Rattle.ranges.proofs.Flat.{length-counted}
+use Rattle.ranges.proofs.Stored.{counted-stored}
+use Rattle.ranges.proofs.Covering.{covers-append, append-covers}
+use Rattle.lost_segments.specs.declared.Store.{Store}
+use Rattle.lost_segments.specs.Slots.{Slots}
+use Rattle.lost_segments.specs.Add.{addOutcome, addList, Takes}
+use Rattle.lost_segments.proofs.Behind.{stored-slots}
+
+module _ (xs : List ℕ) (st : Store) (s e : ℕ) where
+  abbrev top : ℕ
+  top = limitOf (st .width)
+
+  abbrev old : List Range
+  old = counted xs (st .count)
+
+  abbrev more : List Range
+  more = old ++ (range s e ∷ [])
+
+  taken : Takes xs st s e → addOutcome xs st s e ≡ accepted ((st .count + 1) ∷ [])
+  taken t =
+      let lt = t .nonempty in
+      let r = t .room in
+      rw (t .good, ne-eqb s e (λ q. omega arith), le-ltb e s (omega arith), le-ltb top s (t .start-within), le-ltb top e (t .end-within), ne-eqb (st .count) (capacity xs) (λ q. omega arith))
+
+  -- only a call that passes every check is accepted
+  takes : addOutcome xs st s e .number ≡ 0 → Takes xs st s e
+  takes = go (isBadStore xs (st .count) top) refl (eqb s e) refl (ltb e s) refl (eitherAbove top s e) refl (eqb (st .count) (capacity xs)) refl
+    where
+      go : (t : Bool) → isBadStore xs (st .count) top ≡ t → (u : Bool) → eqb s e ≡ u → (v : Bool) → ltb e s ≡ v → (w : Bool) → eitherAbove top s e ≡ w
+          → (z : Bool) → eqb (st .count) (capacity xs) ≡ z → addOutcome xs st s e .number ≡ 0 → Takes xs st s e
+      go true f u g v h w i z j k = absurd (omega (arith, rw f at k))
+      go false f true g v h w i z j k = absurd (omega (arith, rw (f, g) at k))
+      go false f false g true h w i z j k = absurd (omega (arith, rw (f, g, h) at k))
+      go false f false g false h true i z j k = absurd (omega (arith, rw (f, g, h, i) at k))
+      go false f false g false h false i true j k = absurd (omega (arith, rw (f, g, h, i, j) at k))
+      go false f false g false h false i false j k =
+          let p = good xs (st .count) top f in
+          let q : s ≡ e → ⊥ = eqb-false _ _ g in
+          let r : s ≤ e = ltb-false _ _ h in
+          let o = or-false (ltb top s) (ltb top e) i in
+          let c : st .count ≡ capacity xs → ⊥ = eqb-false _ _ j in
+          record { good = f; nonempty = omega arith; start-within = ltb-false _ _ (o .0); end-within = ltb-false _ _ (o .1); room = omega arith }
+
+  -- accepted exactly if add takes the range; the count is one more
+  pub add-accepted : (m : ℕ) → (addOutcome xs st s e ≡ accepted (m ∷ [])) ↔ (Takes xs st s e × (m ≡ st .count + 1))
+  add-accepted m = (to, λ h. taken (h .0) ∙ rw (h .1))
+    where
+      to : addOutcome xs st s e ≡ accepted (m ∷ []) → Takes xs st s e × (m ≡ st .count + 1)
+      to f =
+          let t = takes (ap (λ (o : Outcome). o .number) f) in
+          (t, ap (λ (o : Outcome). getD (o .values) 0 0) (sym f ∙ taken t))
+
+  -- the list afterwards holds one range more
+  after : (m : ℕ) → addOutcome xs st s e ≡ accepted (m ∷ []) → (addList xs st s e ≡ stored more (st .count) xs) × (m ≡ length more)
+  after m f =
+      let w = add-accepted m .0 f in
+      let g = good xs (st .count) top (w .0 .good) in
+      let l : length more ≡ length old + 1 = length-append old (range s e ∷ []) in
+      let n = length-counted xs (st .count) (g .room) in
+      (ap (λ (o : Outcome). lent o (stored more (st .count) xs) xs) f, omega (arith, w .1))
+
+  -- the counted ranges afterwards: the old ones, and behind them the new one
+  pub add-ranges : (m : ℕ) → addOutcome xs st s e ≡ accepted (m ∷ []) → counted (addList xs st s e) m ≡ counted xs (st .count) ++ (range s e ∷ [])
+  add-ranges m f = let w = after m f in rw (w .0, w .1) (counted-stored more (st .count) xs)
+
+  pub add-slots : (m : ℕ) → addOutcome xs st s e ≡ accepted (m ∷ []) → Slots xs (st .count) (addList xs st s e) m
+  add-slots m f = let w = after m f in rw (w .0, w .1) (stored-slots more (st .count) xs)
+
+  -- so their offsets are the old ones and those of the new range
+  pub add-covers : (m : ℕ) → addOutcome xs st s e ≡ accepted (m ∷ []) → (x : ℕ) → Covers x (counted (addList xs st s e) m) ↔ (Covers x (counted xs (st .count)) ⊎ In x (range s e))
+  add-covers m f x =
+      rw (add-ranges m f) (
+        λ h. ⊎-elim (λ g. inl g) (λ g. inr (⊎-elim (λ u. u) absurd g)) (covers-append x old (range s e ∷ []) h),
+        λ h. append-covers x old (range s e ∷ []) (⊎-elim (λ g. inl g) (λ g. inr (inl g)) h),
+      )
