@@ -1,7 +1,7 @@
 -- What the octets of a run of calls name, for the record and the list that any history of events leaves. Parted by their own length
 -- fields and read, they name each missing octet once and no other, and ask for metadata once exactly if it is missing.
 use mathlib.Core.Path.{_≡_, refl, sym, ap, _∙_}
-use mathlib.Core.Bool.{Bool, true, false, cond}
+use mathlib.Core.Bool.{Bool, true, false, not, cond}
 use mathlib.Core.List.{List, [], _∷_}
 use mathlib.Core.Logic.{inr, ⊎-elim, _↔_}
 use Prim.Native.Nat.{ℕ, zero, suc, _+_, _*_, _-_, _≤_, _<_, min}
@@ -16,8 +16,9 @@ use Rattle.ranges.proofs.Covering.{above-covers, at-covers}
 use Rattle.ranges.proofs.Fewest.{fewest}
 use Rattle.ranges.proofs.Test.{and-none}
 use Rattle.nak.specs.Writer.{isBadIdentity}
-use Rattle.reception.specs.History.{Event, State, fresh, run, rangesOf, Missing}
+use Rattle.reception.specs.History.{Event, State, fresh, run, rangesOf, metadataCame, Missing}
 use Rattle.reception.specs.Record.{Passed}
+use Rattle.reception.proofs.Records.{mark-metadata}
 use Rattle.reception.proofs.Histories.{missing-exact, list-coalesced, always-sound}
 use Rattle.nak_sequence.specs.Entries.{Asking, entriesOf, roundedUp, naks, octetsOf}
 use Rattle.nak_sequence.specs.Sequence.{Order, isBadSize, isTooLarge, asked}
@@ -57,6 +58,11 @@ no-metadata d (r ∷ rs) s =
 metadata-entries : (m : Bool) (rs : List Range) → Coalesced rs → metadataAsked (entriesOf m rs) ≡ cond m 1 0
 metadata-entries true rs s = let i = no-metadata 0 rs s in omega arith
 metadata-entries false rs s = no-metadata 0 rs s
+
+-- one request where the metadata is missing
+asked-if : (m c : Bool) → m ≡ not c → _≡_ {A = ℕ} (cond m 1 0) (cond c 0 1)
+asked-if m true e = rw e
+asked-if m false e = rw e
 
 length-entries : (m : Bool) (rs : List Range) → length (entriesOf m rs) ≡ length rs + cond m 1 0
 length-entries true rs = omega arith
@@ -146,17 +152,21 @@ module _
           → In x (getD (requestsRead (parted octets)) i (range 0 0)) → In x (getD (requestsRead (parted octets)) j (range 0 0)) → i ≡ j
       names-once = rw requests (entry-once (reached .rec .missing) (rangesOf reached) (list-coalesced w xs N size few es))
 
-      -- they ask for metadata once exactly if it is missing
-      pub metadata-once : metadataAsked (requestsRead (parted octets)) ≡ cond (reached .rec .missing) 1 0
-      metadata-once = rw requests (metadata-entries (reached .rec .missing) (rangesOf reached) (list-coalesced w xs N size few es))
+      -- they ask for metadata once exactly if it is missing: if no metadata event was accepted
+      pub metadata-once : metadataAsked (requestsRead (parted octets)) ≡ cond (metadataCame (fresh w xs) es) 0 1
+      metadata-once =
+          ap metadataAsked requests
+          ∙ metadata-entries (reached .rec .missing) (rangesOf reached) (list-coalesced w xs N size few es)
+          ∙ asked-if (reached .rec .missing) (metadataCame (fresh w xs) es) (mark-metadata w xs es)
 
       -- and no list of fewer ranges names the same octets
       pub names-fewest : (qs : List Range) → ((x : ℕ) → Covers x qs ↔ Missing (fresh w xs) es x)
-          → length (requestsRead (parted octets)) ≤ length qs + cond (reached .rec .missing) 1 0
+          → length (requestsRead (parted octets)) ≤ length qs + cond (metadataCame (fresh w xs) es) 0 1
       names-fewest qs f =
           let m = missing-exact w xs N size few es in
           let k =
           fewest (rangesOf reached) qs (list-coalesced w xs N size few es)
           (λ x. (λ h. f x .1 (m x .0 h), λ h. m x .1 (f x .0 h))) in
           let e = length-entries (reached .rec .missing) (rangesOf reached) in
-          rw requests (omega arith)
+          let c = asked-if (reached .rec .missing) (metadataCame (fresh w xs) es) (mark-metadata w xs es) in
+          rw (requests, ← c) (omega arith)
