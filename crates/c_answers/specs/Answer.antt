@@ -1,6 +1,6 @@
 -- What a call answers, as C is handed it.
 use lib.ListN.{getD}
-use Rattle.ranges.specs.Outcome.{Outcome}
+use Rattle.outcomes.specs.Outcome.{Outcome}
 use Rattle.c_answers.specs.declared.PusmarkeAnswer.{PusmarkeAnswer}
 
 -- An outcome in four numbers: 0 or the refusal's number, then the values in order, 0 where there is none. No outcome has more

@@ -1,7 +1,7 @@
 // Inner: what the functions over the answer enums share.
 ghost use mathlib.Core.Path.{_≡_};
 ghost use mathlib.Core.List.{[], _∷_};
-ghost use Rattle.ranges.specs.Outcome.{refused};
+ghost use Rattle.outcomes.specs.Outcome.{refused};
 ghost use Rattle.c_answers.specs.Answer.{answerOf};
 use crate::PusmarkeAnswer;
 

@@ -4,7 +4,7 @@ use mathlib.Core.List.{List, [], _∷_, _++_}
 use lib.ListN.{length, replicate}
 use Rattle.ranges.specs.Range.{Range}
 use Rattle.ranges.specs.Store.{flat}
-use Rattle.ranges.specs.Outcome.{Outcome}
+use Rattle.outcomes.specs.Outcome.{Outcome}
 use Rattle.ranges.specs.declared.Width.{Width}
 use Rattle.ranges.specs.declared.Width.the-variants.{Wide}
 use Rattle.octets.specs.declared.LargeFileFlag.the-variants.{Normal}
@@ -15,8 +15,8 @@ use Rattle.lost_segments.specs.Coalesce.{coalesceOutcome, coalesceList}
 use Rattle.reception.specs.History.{Event, State, fresh, outcome, step, run}
 use Rattle.nak.specs.declared.Identity.{Identity}
 use Rattle.nak.specs.Pdu.{Nak}
-use Rattle.nak_sequence.specs.Entries.{asking}
-use Rattle.nak_sequence.specs.Whole.{wholeSequence}
+use Rattle.nak_sequence.specs.Entries.{Asking, asking, naks}
+use Rattle.nak_sequence.specs.Sequence.{order, pduCount}
 
 pub data Example : Type 0 where
   -- A call on a store of this width and capacity that holds these ranges.
@@ -25,7 +25,7 @@ pub data Example : Type 0 where
   Coalesce : Width → ℕ → List Range → Example
   -- Events on a fresh wide reception of this capacity.
   Events : ℕ → List Event → Example
-  -- The whole NAK sequence for these ranges and this progress, metadata known, with so many requests in a PDU.
+  -- The NAK sequence for these ranges and this progress, metadata known, with so many requests in a PDU: one call with a budget of 16.
   Sequence : ℕ → List Range → ℕ → Example
 
 -- What each call answered; the whole lent list afterwards, or of a sequence the start and end of each scope; progress.
@@ -57,10 +57,14 @@ scopes (n ∷ ns) = n .scope .start ∷ n .scope .end ∷ scopes ns
 abbrev pub anyIdentity : Identity
 anyIdentity = record { «entity_length» = 1; «number_length» = 1; source = 1; number = 7; destination = 2 }
 
+-- The PDUs of a call from cursor 0 on with a budget of 16; the largest PDU has its say in the number of requests alone.
+abbrev pub sentBy : Asking → List Nak
+sentBy a = naks a 0 (pduCount a (order anyIdentity Normal 0 0 16))
+
 abbrev pub result : Example → Came
 result (Add w cap rs a b) = came (addOutcome (holding cap rs) (storeOf w rs) a b ∷ []) (addList (holding cap rs) (storeOf w rs) a b) 0
 result (Remove w cap rs a b) = came (removeOutcome (holding cap rs) (storeOf w rs) a b ∷ []) (removeList (holding cap rs) (storeOf w rs) a b) 0
 result (Coalesce w cap rs) = came (coalesceOutcome (holding cap rs) (storeOf w rs) ∷ []) (coalesceList (holding cap rs) (storeOf w rs)) 0
 result (Events cap es) =
     came (outcomes (fresh Wide (holding cap [])) es) (run (fresh Wide (holding cap [])) es .list) (run (fresh Wide (holding cap [])) es .rec .progress)
-result (Sequence k rs p) = came [] (scopes (wholeSequence (asking Normal anyIdentity p rs k))) p
+result (Sequence k rs p) = came [] (scopes (sentBy (asking Normal anyIdentity p rs k))) p

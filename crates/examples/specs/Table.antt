@@ -1,7 +1,8 @@
 -- The traced examples of document 01 that it marks P, in its order, as one table: an example, and what the paper says comes of it.
 use mathlib.Core.List.{List, [], _∷_}
 use Rattle.ranges.specs.Range.{Range, range}
-use Rattle.ranges.specs.Outcome.{Outcome, accepted, storeFull, emptySegment, largeFileSegmentNotSupported, invalidSegmentBoundary}
+use Rattle.outcomes.specs.Outcome.{Outcome, accepted}
+use Rattle.outcomes.specs.Named.{storeFull, emptySegment, largeFileSegmentNotSupported, invalidSegmentBoundary}
 use Rattle.ranges.specs.declared.Width.the-variants.{Wide, Narrow}
 use Rattle.reception.specs.History.{Data, Metadata}
 use Rattle.examples.specs.Example.{Example, Add, Remove, Coalesce, Events, Sequence, Came, came}

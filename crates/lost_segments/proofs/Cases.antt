@@ -4,8 +4,8 @@ use mathlib.Core.Bool.{cond}
 use Prim.Native.Nat.{ℕ}
 use lib.Dec.{eqb}
 use lib.ListN.{getD}
-use Rattle.ranges.specs.Outcome.{Outcome}
-use Rattle.ranges.proofs.Apart.{apart}
+use Rattle.outcomes.specs.Outcome.{Outcome}
+use Rattle.outcomes.proofs.Apart.{apart}
 use Rattle.lost_segments.specs.Add.{addCase}
 use Rattle.lost_segments.specs.Remove.{removeCase}
 use Rattle.lost_segments.specs.Coalesce.{coalesceCase}

@@ -6,7 +6,8 @@ use mathlib.Core.List.{List, [], _∷_, _++_}
 use lib.Dec.{ltb, eqb}
 use Rattle.ranges.specs.Range.{range}
 use Rattle.ranges.specs.Store.{counted, capacity, limitOf, isBadStore, eitherAbove, stored}
-use Rattle.ranges.specs.Outcome.{Outcome, accepted, lent, storeFull, emptySegment, startLargerThanEnd, largeFileSegmentNotSupported, badStore}
+use Rattle.outcomes.specs.Outcome.{Outcome, accepted, lent}
+use Rattle.outcomes.specs.Named.{storeFull, emptySegment, startLargerThanEnd, largeFileSegmentNotSupported, badStore}
 use Rattle.lost_segments.specs.declared.Store.{Store}
 use Rattle.lost_segments.specs.declared.add.AddAnswer.{AddAnswer}
 use Rattle.lost_segments.specs.declared.add.AddAnswer.the-variants as answer

@@ -7,7 +7,8 @@ use lib.ListN.{length}
 use lib.Dec.{ltb}
 use Rattle.ranges.specs.Range.{Range, range}
 use Rattle.ranges.specs.Store.{counted, limitOf, isBadStore, stored}
-use Rattle.ranges.specs.Outcome.{Outcome, accepted, lent, badStore}
+use Rattle.outcomes.specs.Outcome.{Outcome, accepted, lent}
+use Rattle.outcomes.specs.Named.{badStore}
 use Rattle.lost_segments.specs.declared.Store.{Store}
 use Rattle.lost_segments.specs.declared.coalesce.CoalesceAnswer.{CoalesceAnswer}
 use Rattle.lost_segments.specs.declared.coalesce.CoalesceAnswer.the-variants as answer

@@ -8,7 +8,8 @@ use lib.Dec.{ltb, eqb}
 use Rattle.ranges.specs.Range.{Range, Coalesced, some, inside, shares, isCoalesced}
 use Rattle.ranges.specs.Without.{without}
 use Rattle.ranges.specs.Store.{counted, capacity, limitOf, isBadStore, eitherAbove, stored}
-use Rattle.ranges.specs.Outcome.{Outcome, accepted, lent, storeFull, emptySegment, startLargerThanEnd, largeFileSegmentNotSupported, invalidSegmentBoundary, notCoalesced, badStore}
+use Rattle.outcomes.specs.Outcome.{Outcome, accepted, lent}
+use Rattle.outcomes.specs.Named.{storeFull, emptySegment, startLargerThanEnd, largeFileSegmentNotSupported, invalidSegmentBoundary, notCoalesced, badStore}
 use Rattle.lost_segments.specs.declared.Store.{Store}
 use Rattle.lost_segments.specs.declared.remove.RemoveAnswer.{RemoveAnswer}
 use Rattle.lost_segments.specs.declared.remove.RemoveAnswer.the-variants as answer

@@ -5,7 +5,8 @@ use mathlib.Core.Bool.{cond}
 use mathlib.Core.List.{List, [], _∷_, List·Memᴰ}
 use Rattle.ranges.specs.Range.{Range, some, inside}
 use Rattle.ranges.specs.Store.{counted, limitOf, isBadStore}
-use Rattle.ranges.specs.Outcome.{Outcome, accepted, badStore}
+use Rattle.outcomes.specs.Outcome.{Outcome, accepted}
+use Rattle.outcomes.specs.Named.{badStore}
 use Rattle.lost_segments.specs.declared.Store.{Store}
 use Rattle.lost_segments.specs.declared.segment_in_store.InStoreAnswer.{InStoreAnswer}
 use Rattle.lost_segments.specs.declared.segment_in_store.InStoreAnswer.the-variants as answer

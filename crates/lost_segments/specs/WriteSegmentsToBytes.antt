@@ -6,7 +6,8 @@ use mathlib.Core.List.{List, [], _∷_}
 use lib.ListN.{length, take}
 use lib.Dec.{eqb}
 use Rattle.ranges.specs.Store.{limitOf, isBadStore, anyAbove}
-use Rattle.ranges.specs.Outcome.{Outcome, accepted, lent, bufferSizeMissmatch, largeSegmentForNormalFileSize, badStore}
+use Rattle.outcomes.specs.Outcome.{Outcome, accepted, lent}
+use Rattle.outcomes.specs.Named.{bufferSizeMissmatch, largeSegmentForNormalFileSize, badStore}
 use Rattle.octets.specs.declared.LargeFileFlag.{LargeFileFlag}
 use Rattle.octets.specs.Flag.{fieldLength, largestOf}
 use Rattle.octets.specs.Octets.{fields}

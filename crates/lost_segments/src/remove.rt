@@ -5,7 +5,7 @@ ghost use lib.ListN.{length};
 ghost use Rattle.ranges.specs.Range.{Coalesced};
 ghost use Rattle.ranges.specs.Without.{without};
 ghost use Rattle.ranges.specs.Store.{counted, capacity, stored};
-ghost use Rattle.ranges.specs.Outcome.{lent};
+ghost use Rattle.outcomes.specs.Outcome.{lent};
 ghost use Rattle.lost_segments.specs.Remove.{removeCase, removeFrom, removeOutcome, removeList};
 use crate::Store;
 use ranges::inner::checks::check;

@@ -10,8 +10,8 @@ use lib.ListN.{length}
 use lib.Seq.{take-length}
 use borrow.Author.Tests.{eqb-false, ltb-false, ltb-true, lt-ltb, le-ltb, eq-eqb, ne-eqb, eqb-true, not-true, not-false}
 use Rattle.ranges.specs.Store.{pairs, flat, anyAbove}
-use Rattle.ranges.specs.Outcome as to
-use Rattle.ranges.specs.Outcome.{Outcome, accepted, refused}
+use Rattle.outcomes.specs.Named as to
+use Rattle.outcomes.specs.Outcome.{Outcome, accepted, refused}
 use Rattle.octets.specs.Octets.{fits}
 use Rattle.octets.specs.Flag.{largestOf}
 use Rattle.nak.specs.declared.Identity.{Identity}

@@ -3,7 +3,7 @@ use mathlib.Core.Path.{_≡_, refl, sym, ap, _∙_}
 use mathlib.Core.Bool.{cond}
 use lib.Dec.{eqb}
 use lib.ListN.{getD}
-use Rattle.ranges.specs.Outcome.{Outcome}
+use Rattle.outcomes.specs.Outcome.{Outcome}
 use Rattle.nak.specs.declared.inner.RequestsAnswer as asked
 use Rattle.nak.specs.declared.inner.RequestsAnswer.{RequestsAnswer}
 use Rattle.nak.specs.declared.writer.WriteAnswer.{WriteAnswer}

@@ -8,7 +8,8 @@ use native.Mathlib.Omega.{arith}
 use lib.Dec.{eqb, ltb}
 use borrow.Author.Tests.{lt-ltb, le-ltb, eq-eqb, ne-eqb}
 use Rattle.ranges.specs.Range.{Range, range}
-use Rattle.ranges.specs.Outcome.{accepted, refused, emptySegment, startLargerThanEnd}
+use Rattle.outcomes.specs.Outcome.{accepted, refused}
+use Rattle.outcomes.specs.Named.{emptySegment, startLargerThanEnd}
 use Rattle.nak.specs.Request.{isMetadata, requestOutcome, requestsFrom}
 
 -- the list's answer where its first request is refused

@@ -3,7 +3,8 @@ use mathlib.Core.Bool.{Bool, true, false, _&&_, not, cond}
 use mathlib.Core.List.{List, [], _∷_}
 use lib.Dec.{eqb, ltb}
 use Rattle.ranges.specs.Range.{Range}
-use Rattle.ranges.specs.Outcome.{Outcome, accepted, emptySegment, startLargerThanEnd}
+use Rattle.outcomes.specs.Outcome.{Outcome, accepted}
+use Rattle.outcomes.specs.Named.{emptySegment, startLargerThanEnd}
 use Rattle.nak.specs.declared.inner.RequestsAnswer.{RequestsAnswer}
 use Rattle.nak.specs.declared.inner.RequestsAnswer.the-variants.{Fine, EmptySegment, StartLargerThanEnd}
 

@@ -5,8 +5,8 @@ use mathlib.Core.List.{List, [], _∷_}
 use lib.Dec.{eqb, ltb}
 use lib.ListN.{length}
 use Rattle.ranges.specs.Store.{flat, anyAbove}
-use Rattle.ranges.specs.Outcome as to
-use Rattle.ranges.specs.Outcome.{Outcome, accepted, lent}
+use Rattle.outcomes.specs.Named as to
+use Rattle.outcomes.specs.Outcome.{Outcome, accepted, lent}
 use Rattle.octets.specs.Octets.{fits}
 use Rattle.octets.specs.Flag.{largestOf}
 use Rattle.nak.specs.declared.Identity.{Identity}

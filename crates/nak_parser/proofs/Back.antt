@@ -11,7 +11,7 @@ use borrow.Author.Tests.{ltb-false, le-ltb, eq-eqb, ne-eqb}
 use Rattle.ranges.proofs.Flat.{length-flat}
 use Rattle.ranges.specs.Range.{Range}
 use Rattle.ranges.specs.Store.{flat, anyAbove}
-use Rattle.ranges.specs.Outcome.{accepted}
+use Rattle.outcomes.specs.Outcome.{accepted}
 use Rattle.octets.specs.Octets.{field, fields, number}
 use Rattle.octets.specs.Flag.{fieldLength, largestOf}
 use Rattle.octets.specs.declared.LargeFileFlag.{LargeFileFlag}

@@ -8,7 +8,7 @@ use lib.Dec.{eqb}
 use lib.ListN.{length, getD, take, drop, length-drop}
 use lib.Seq.{take-all}
 use borrow.Author.Tests.{eqb-true, eqb-false, ne-eqb, le-ltb, lt-ltb}
-use Rattle.ranges.specs.Outcome.{accepted, lent}
+use Rattle.outcomes.specs.Outcome.{accepted, lent}
 use Rattle.nak_parser.specs.Parser.{fieldLengthIn, headerLengthIn, scopeAt, requestsAt, readOutcome, acceptedParsed, refusedParsed, parsedOf, requestsPart}
 use Rattle.nak_parser.specs.Step.{atEnd}
 use Rattle.nak_parser.proofs.Reading.{Read, read-of}

@@ -10,7 +10,8 @@ use lib.ListN.{length, take, drop, length-drop}
 use lib.Seq.{length-take-le}
 use borrow.Author.Tests.{eqb-true, eqb-false, ltb-false, ltb-true, lt-ltb, le-ltb, eq-eqb, ne-eqb, not-true, not-false}
 use Rattle.ranges.specs.Range.{range}
-use Rattle.ranges.specs.Outcome.{accepted, refused, lengthMismatch, badHeader, notNak, scopeReversed, pduSize}
+use Rattle.outcomes.specs.Outcome.{accepted, refused}
+use Rattle.outcomes.specs.Named.{lengthMismatch, badHeader, notNak, scopeReversed, pduSize}
 use Rattle.octets.specs.Octets.{number, AllOctets}
 use Rattle.octets.specs.Flag.{fieldLength}
 use Rattle.octets.specs.declared.LargeFileFlag.{LargeFileFlag}

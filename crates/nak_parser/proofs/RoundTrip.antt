@@ -11,7 +11,7 @@ use lib.ListN.{length, drop, length-drop}
 use borrow.Author.Tests.{le-ltb, ne-eqb}
 use Rattle.ranges.proofs.Flat.{length-flat, pairs-flat}
 use Rattle.ranges.specs.Store.{pairs, flat, anyAbove}
-use Rattle.ranges.specs.Outcome.{Outcome, accepted}
+use Rattle.outcomes.specs.Outcome.{Outcome, accepted}
 use Rattle.octets.specs.Octets.{fields, AllOctets}
 use Rattle.octets.specs.Flag.{fieldLength, largestOf}
 use Rattle.octets.specs.declared.LargeFileFlag.{LargeFileFlag}

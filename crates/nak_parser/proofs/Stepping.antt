@@ -9,7 +9,7 @@ use lib.Dec.{eqb}
 use lib.ListN.{length, getD, drop, replicate}
 use lib.Seq.{drop-drop}
 use borrow.Author.Tests.{eqb-true}
-use Rattle.ranges.specs.Outcome.{Outcome, accepted}
+use Rattle.outcomes.specs.Outcome.{Outcome, accepted}
 use Rattle.nak_parser.specs.declared.Step.{Step}
 use Rattle.nak_parser.specs.declared.Step.the-variants.{Request, End}
 use Rattle.nak_parser.specs.Parser.{fieldLengthIn, requestsAt, requestsIn, requestsOf, readOutcome, parsedOf}

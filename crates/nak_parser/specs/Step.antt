@@ -5,7 +5,7 @@ use mathlib.Core.List.{List, [], _∷_}
 use lib.Dec.{ltb}
 use lib.ListN.{length}
 use Rattle.ranges.specs.Range.{Range}
-use Rattle.ranges.specs.Outcome.{Outcome, accepted, lent}
+use Rattle.outcomes.specs.Outcome.{Outcome, accepted, lent}
 use Rattle.nak_parser.specs.declared.Step.{Step}
 use Rattle.nak_parser.specs.declared.Step.the-variants.{Request, End}
 use Rattle.nak_parser.specs.Parser.{fieldAt, fieldLengthIn, requestsOf, readOutcome}

@@ -4,7 +4,7 @@ use mathlib.Core.List.{List, [], _∷_, _++_}
 use Prim.Native.Nat.{ℕ, zero, suc, _+_}
 use lib.ListN.{length, replicate}
 use denote.Ref.{RefT, now}
-use Rattle.ranges.specs.Outcome.{Outcome, accepted}
+use Rattle.outcomes.specs.Outcome.{Outcome, accepted}
 use Rattle.nak_parser.specs.Step.{stepOutcome, steps, eachRequest, requestsGiven}
 use Rattle.nak_parser.proofs.Handed.{part-of}
 use Rattle.nak_parser.proofs.Stepping.{stepping}

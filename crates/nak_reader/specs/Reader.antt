@@ -3,7 +3,7 @@ use Prim.Native.Nat.{ℕ, zero, suc}
 use mathlib.Core.List.{List, [], _∷_}
 use lib.ListN.{length}
 use denote.Ref.{RefT, now}
-use Rattle.ranges.specs.Outcome.{Outcome, lent}
+use Rattle.outcomes.specs.Outcome.{Outcome, lent}
 use Rattle.nak_parser.specs.Parser.{requestsAt, readOutcome}
 use Rattle.nak_parser.specs.Step.{stepOutcome, placeAfter}
 use Rattle.nak_reader.specs.declared.NakReader.{NakReader}

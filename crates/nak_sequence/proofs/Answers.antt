@@ -7,8 +7,8 @@ use Prim.Native.Nat.{ℕ, _+_, _*_, _≤_, _<_}
 use lib.ListN.{length, take, drop}
 use lib.Dec.{ltb}
 use borrow.Author.Tests.{lt-ltb, le-ltb}
-use Rattle.ranges.specs.Outcome as to
-use Rattle.ranges.specs.Outcome.{Outcome, accepted, lent}
+use Rattle.outcomes.specs.Named as to
+use Rattle.outcomes.specs.Outcome.{Outcome, accepted, lent}
 use Rattle.ranges.specs.Range.{lastEnd}
 use Rattle.ranges.specs.Store.{counted, anyAbove}
 use Rattle.ranges.proofs.Last.{above-counted}

@@ -9,7 +9,7 @@ use native.Mathlib.Omega.{arith}
 use lib.ListN.{length, take, drop, length-append, length-drop, List·getD-append}
 use lib.Seq.{drop-drop, take-add, take-at, drop-at, take-append-le, drop-append-le}
 use Rattle.ranges.specs.Range.{Range}
-use Rattle.ranges.specs.Outcome.{Outcome, accepted}
+use Rattle.outcomes.specs.Outcome.{Outcome, accepted}
 use Rattle.octets.specs.Octets.{number}
 use Rattle.nak.specs.Pdu.{Nak, pdu}
 use Rattle.nak.specs.Writer.{isBadIdentity}

@@ -10,7 +10,7 @@ use lib.Dec.{ltb}
 use borrow.Author.Tests.{le-ltb, ne-eqb, ltb-true, ltb-false}
 use Rattle.ranges.specs.Range.{Range, range, Above, Coalesced, lastEnd}
 use Rattle.ranges.specs.Store.{flat, counted, anyAbove}
-use Rattle.ranges.specs.Outcome.{accepted}
+use Rattle.outcomes.specs.Outcome.{accepted}
 use Rattle.ranges.proofs.Test.{or-false, coalesced-of}
 use Rattle.octets.specs.declared.LargeFileFlag.{LargeFileFlag}
 use Rattle.nak.specs.declared.Identity.{Identity}

@@ -12,7 +12,7 @@ use lib.Seq.{drop-drop, take-add, take-append-seam}
 use lib.Dec.{eqb}
 use borrow.Author.Tests.{ne-eqb}
 use Rattle.ranges.specs.Range.{Range}
-use Rattle.ranges.specs.Outcome.{Outcome, accepted, lent}
+use Rattle.outcomes.specs.Outcome.{Outcome, accepted, lent}
 use Rattle.nak.specs.Pdu.{Nak}
 use Rattle.nak.specs.Writer.{isBadIdentity}
 use Rattle.reception.specs.declared.Reception.{Reception}

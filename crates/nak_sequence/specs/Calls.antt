@@ -3,7 +3,7 @@
 use Prim.Native.Nat.{ℕ, zero, _+_, _*_, _≤_}
 use mathlib.Core.List.{List, [], _∷_, _++_}
 use lib.ListN.{length, getD, take}
-use Rattle.ranges.specs.Outcome.{Outcome, lent}
+use Rattle.outcomes.specs.Outcome.{Outcome, lent}
 use Rattle.reception.specs.declared.Reception.{Reception}
 use Rattle.nak_sequence.specs.Sequence.{Order, order, asked, sent, sequenceOutcome, sequenceBuffer}
 

@@ -5,8 +5,8 @@ use mathlib.Core.List.{List, [], _∷_, _++_}
 use lib.ListN.{length, take, drop}
 use lib.Dec.{ltb}
 use Rattle.ranges.specs.Store.{counted, anyAbove}
-use Rattle.ranges.specs.Outcome as to
-use Rattle.ranges.specs.Outcome.{Outcome, accepted, lent}
+use Rattle.outcomes.specs.Named as to
+use Rattle.outcomes.specs.Outcome.{Outcome, accepted, lent}
 use Rattle.octets.specs.declared.LargeFileFlag.{LargeFileFlag}
 use Rattle.octets.specs.Flag.{fieldLength, largestOf}
 use Rattle.nak.specs.declared.Identity.{Identity}

@@ -12,7 +12,8 @@ use borrow.Author.Tests.{lt-ltb, le-ltb}
 use Rattle.ranges.specs.Range.{Range, Covers, Coalesced}
 use Rattle.ranges.specs.Run.{RunsOf}
 use Rattle.ranges.specs.Store.{capacity, limitOf}
-use Rattle.ranges.specs.Outcome.{Outcome, accepted, storeFull, emptySegment, largeFileSegmentNotSupported, rangeTooLong, alreadyKnown}
+use Rattle.outcomes.specs.Outcome.{Outcome, accepted}
+use Rattle.outcomes.specs.Named.{storeFull, emptySegment, largeFileSegmentNotSupported, rangeTooLong, alreadyKnown}
 use Rattle.ranges.specs.declared.Width.{Width}
 use Rattle.ranges.proofs.Runs.{runs-of, one-runs}
 use Rattle.ranges.proofs.Without.{part-covers}

@@ -5,9 +5,9 @@ use mathlib.Core.Bool.{Bool, cond}
 use Prim.Native.Nat.{ℕ}
 use lib.Dec.{eqb}
 use lib.ListN.{getD}
-use Rattle.ranges.specs.Outcome.{Outcome}
+use Rattle.outcomes.specs.Outcome.{Outcome}
 use Rattle.ranges.specs.declared.Width.{Width}
-use Rattle.ranges.proofs.Apart.{apart}
+use Rattle.outcomes.proofs.Apart.{apart}
 use Rattle.reception.specs.Record.{recordOf}
 use Rattle.reception.specs.Data.{dataCase}
 use Rattle.reception.specs.Metadata.{metadataCase}

@@ -7,7 +7,8 @@ use Prim.Native.Nat.{ℕ, _≤_, _<_}
 use borrow.Author.Tests.{ltb-true, ltb-false, not-false, lt-ltb, le-ltb}
 use lib.Dec.{ltb}
 use Rattle.ranges.specs.Range.{isCoalesced, lastEnd}
-use Rattle.ranges.specs.Outcome.{Outcome, accepted, notCoalesced, badStore, scopeBelowList}
+use Rattle.outcomes.specs.Outcome.{Outcome, accepted}
+use Rattle.outcomes.specs.Named.{notCoalesced, badStore, scopeBelowList}
 use Rattle.ranges.specs.Store.{counted, limitOf, isBadStore}
 use Rattle.ranges.proofs.Test.{or-false}
 use Rattle.ranges.proofs.Good.{Good, good}

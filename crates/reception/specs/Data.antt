@@ -7,7 +7,8 @@ use lib.Dec.{ltb, eqb}
 use Rattle.ranges.specs.Range.{Range, range}
 use Rattle.ranges.specs.Store.{counted, capacity, limitOf, stored}
 use Rattle.ranges.specs.Without.{without}
-use Rattle.ranges.specs.Outcome.{Outcome, accepted, lent, storeFull, emptySegment, largeFileSegmentNotSupported, notCoalesced, rangeTooLong, badStore, scopeBelowList}
+use Rattle.outcomes.specs.Outcome.{Outcome, accepted, lent}
+use Rattle.outcomes.specs.Named.{storeFull, emptySegment, largeFileSegmentNotSupported, notCoalesced, rangeTooLong, badStore, scopeBelowList}
 use Rattle.reception.specs.declared.Reception.{Reception}
 use Rattle.reception.specs.declared.data.DataAnswer.{DataAnswer}
 use Rattle.reception.specs.declared.data.DataAnswer.the-variants as answer

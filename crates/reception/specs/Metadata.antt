@@ -2,7 +2,8 @@
 use Prim.Native.Nat.{ℕ}
 use mathlib.Core.Bool.{false, cond}
 use mathlib.Core.List.{List, []}
-use Rattle.ranges.specs.Outcome.{Outcome, accepted, lent, notCoalesced, badStore, scopeBelowList, alreadyKnown}
+use Rattle.outcomes.specs.Outcome.{Outcome, accepted, lent}
+use Rattle.outcomes.specs.Named.{notCoalesced, badStore, scopeBelowList, alreadyKnown}
 use Rattle.reception.specs.declared.Reception.{Reception}
 use Rattle.reception.specs.declared.metadata.MetadataAnswer.{MetadataAnswer}
 use Rattle.reception.specs.declared.metadata.MetadataAnswer.the-variants as answer

@@ -7,7 +7,8 @@ use lib.Dec.{ltb, eqb}
 use Rattle.ranges.specs.Range.{Range, isCoalesced, lastEnd}
 use Rattle.ranges.specs.Store.{counted, limitOf, isBadStore}
 use Rattle.ranges.specs.Without.{part}
-use Rattle.ranges.specs.Outcome.{Outcome, notCoalesced, badStore, scopeBelowList}
+use Rattle.outcomes.specs.Outcome.{Outcome}
+use Rattle.outcomes.specs.Named.{notCoalesced, badStore, scopeBelowList}
 use Rattle.ranges.specs.declared.Width.{Width}
 use Rattle.reception.specs.declared.Reception.{Reception}
 

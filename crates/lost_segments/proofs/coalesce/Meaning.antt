@@ -14,7 +14,7 @@ use Rattle.ranges.specs.Range.{Range, Above, Coalesced, In, Covers, Same}
 use Rattle.ranges.specs.Run.{RunsOf}
 use Rattle.ranges.proofs.Runs.{runs-of}
 use Rattle.ranges.specs.Store.{counted, limitOf, isBadStore, stored}
-use Rattle.ranges.specs.Outcome.{Outcome, accepted}
+use Rattle.outcomes.specs.Outcome.{Outcome, accepted}
 use Rattle.ranges.proofs.Covering.{above-less}
 use Rattle.ranges.proofs.Stored.{counted-stored}
 use Rattle.lost_segments.specs.declared.Store.{Store}

@@ -10,7 +10,8 @@ use borrow.Author.Tests.{lt-ltb, le-ltb, le-leb, lt-leb, ltb-true}
 use Rattle.ranges.specs.Range.{range, Coalesced, some, inside, shares}
 use Rattle.ranges.specs.Store.{counted, capacity, stored}
 use Rattle.ranges.specs.Without.{without}
-use Rattle.ranges.specs.Outcome.{accepted, storeFull, invalidSegmentBoundary}
+use Rattle.outcomes.specs.Outcome.{accepted}
+use Rattle.outcomes.specs.Named.{storeFull, invalidSegmentBoundary}
 use Rattle.ranges.specs.Inner.Cut.{past, first, behind, cutAnswer, cutList}
 use Rattle.ranges.specs.declared.inner.cut.Remains.the-variants.{Full, Left}
 use Rattle.ranges.proofs.Flat.{at, getD-counted, length-counted}

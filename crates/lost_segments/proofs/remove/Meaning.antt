@@ -13,7 +13,8 @@ use borrow.Author.Tests.{ltb-true, ltb-false, eqb-false, ne-eqb, le-ltb}
 use Rattle.ranges.specs.Range.{Range, Covers, Coalesced, Inside, Shares, some, inside, shares, isCoalesced}
 use Rattle.ranges.specs.Without.{Outside, without}
 use Rattle.ranges.specs.Store.{counted, capacity, limitOf, isBadStore, eitherAbove, stored}
-use Rattle.ranges.specs.Outcome.{Outcome, accepted, lent, storeFull, invalidSegmentBoundary}
+use Rattle.outcomes.specs.Outcome.{Outcome, accepted, lent}
+use Rattle.outcomes.specs.Named.{storeFull, invalidSegmentBoundary}
 use Rattle.ranges.proofs.Test.{or-false, coalesced-of, of-coalesced}
 use Rattle.ranges.proofs.Some.{some-member, inside-true, inside-set, shares-set}
 use Rattle.ranges.proofs.Good.{good}

@@ -9,7 +9,7 @@ use native.Mathlib.Omega.{arith}
 use lib.ListN.{getD}
 use Rattle.ranges.specs.Range.{Range, some, inside}
 use Rattle.ranges.specs.Store.{counted, limitOf, isBadStore}
-use Rattle.ranges.specs.Outcome.{Outcome, accepted}
+use Rattle.outcomes.specs.Outcome.{Outcome, accepted}
 use Rattle.ranges.proofs.Some.{some-member, inside-true}
 use Rattle.lost_segments.specs.declared.Store.{Store}
 use Rattle.lost_segments.specs.SegmentInStore.{Held, inStoreOutcome}

@@ -11,7 +11,7 @@ use lib.Dec.{eqb}
 use lib.Seq.{take-at, drop-at}
 use borrow.Author.Tests.{eq-eqb, eqb-true, ltb-false}
 use Rattle.ranges.specs.Store.{limitOf, isBadStore, anyAbove}
-use Rattle.ranges.specs.Outcome.{Outcome, accepted, lent}
+use Rattle.outcomes.specs.Outcome.{Outcome, accepted, lent}
 use Rattle.ranges.proofs.Test.{or-false}
 use Rattle.ranges.proofs.Good.{good}
 use Rattle.octets.specs.declared.LargeFileFlag.{LargeFileFlag}

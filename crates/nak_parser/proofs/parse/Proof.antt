@@ -3,7 +3,7 @@ use Rattle.nak_parser.proofs.Reading.{is-scope, is-place, is-requests, 
 use Rattle.nak_parser.specs.Parser.{scopeIn, requestsOf, acceptedParsed, parsedOf}
 use native.Mathlib.Nat.{mul-div-le}
 use Rattle.nak.specs.Request.{requestsCase, requestsOutcome}
-use Rattle.ranges.specs.Outcome.{accepted}
+use Rattle.outcomes.specs.Outcome.{accepted}
 use mathlib.Core.List.{[]}
 use native.Mathlib.Omega.{arith}
 use Prim.Native.Nat.{ℕ, _+_, _*_, _-_, _≤_}

@@ -8,7 +8,8 @@ use mathlib.Core.Bool.{false}
 use mathlib.Core.List.{[], _∷_}
 use native.Mathlib.Nat.{mul-le-mul-right}
 use Rattle.ranges.specs.Store.{counted}
-use Rattle.ranges.specs.Outcome.{accepted, badStore, notCoalesced, scopeBelowList, badIdentity, pduSize, largeSegmentForNormalFileSize, badCursor, budgetTooLarge, bufferSizeMissmatch}
+use Rattle.outcomes.specs.Outcome.{accepted}
+use Rattle.outcomes.specs.Named.{badStore, notCoalesced, scopeBelowList, badIdentity, pduSize, largeSegmentForNormalFileSize, badCursor, budgetTooLarge, bufferSizeMissmatch}
 use Rattle.octets.specs.Flag.{fieldLength}
 use Rattle.nak.specs.Writer.{isBadIdentity}
 use Rattle.nak.proofs.Checks.{good-lengths}

@@ -10,7 +10,8 @@ use lib.Dec.{ltb, eqb}
 use borrow.Author.Tests.{ltb-false}
 use Rattle.ranges.specs.Range.{Range}
 use Rattle.ranges.specs.Store.{capacity, limitOf}
-use Rattle.ranges.specs.Outcome.{Outcome, storeFull, emptySegment, largeFileSegmentNotSupported, rangeTooLong}
+use Rattle.outcomes.specs.Outcome.{Outcome}
+use Rattle.outcomes.specs.Named.{storeFull, emptySegment, largeFileSegmentNotSupported, rangeTooLong}
 use Rattle.reception.specs.Record.{Passed}
 use Rattle.reception.specs.declared.Reception.{Reception}
 use Rattle.reception.specs.Data.{isTooLong, isFull, dataOutcome}

@@ -6,7 +6,8 @@ use Prim.Native.Nat.{ℕ, _+_, _≤_, _<_, max}
 use borrow.Author.Tests.{eq-eqb, ne-eqb, lt-ltb, le-ltb}
 use Rattle.ranges.specs.Range.{Range}
 use Rattle.ranges.specs.Store.{counted, capacity, limitOf, stored}
-use Rattle.ranges.specs.Outcome.{Outcome, accepted, lent, storeFull, emptySegment, largeFileSegmentNotSupported, rangeTooLong}
+use Rattle.outcomes.specs.Outcome.{Outcome, accepted, lent}
+use Rattle.outcomes.specs.Named.{storeFull, emptySegment, largeFileSegmentNotSupported, rangeTooLong}
 use Rattle.reception.specs.Record.{Passed}
 use Rattle.reception.specs.declared.Reception.{Reception}
 use Rattle.reception.specs.Data.{dataRanges, isTooLong, isFull, advanced, dataOutcome, dataRecord, dataList}

@@ -7,7 +7,8 @@ use mathlib.Core.Path.{_≡_, sym, ap, _∙_}
 use mathlib.Core.List.{List, [], _∷_, _++_}
 use Rattle.ranges.specs.Range.{range}
 use Rattle.ranges.specs.Store.{counted, stored}
-use Rattle.ranges.specs.Outcome.{Outcome, accepted, lent, storeFull, emptySegment, startLargerThanEnd, largeFileSegmentNotSupported, badStore}
+use Rattle.outcomes.specs.Outcome.{Outcome, accepted, lent}
+use Rattle.outcomes.specs.Named.{storeFull, emptySegment, startLargerThanEnd, largeFileSegmentNotSupported, badStore}
 use Rattle.ranges.proofs.Good.{good}
 use Rattle.ranges.proofs.Stored.{stored-push}
 use Rattle.lost_segments.specs.declared.Store.{Store}

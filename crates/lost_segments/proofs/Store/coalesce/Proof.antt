@@ -4,7 +4,8 @@ use Prim.Native.Nat.{ℕ}
 use mathlib.Core.Path.{_≡_, sym, ap, _∙_}
 use mathlib.Core.List.{List, [], _∷_}
 use Rattle.ranges.specs.Store.{counted, stored}
-use Rattle.ranges.specs.Outcome.{Outcome, accepted, lent, badStore}
+use Rattle.outcomes.specs.Outcome.{Outcome, accepted, lent}
+use Rattle.outcomes.specs.Named.{badStore}
 use Rattle.ranges.proofs.Good.{good}
 use Rattle.lost_segments.specs.declared.Store.{Store}
 use Rattle.lost_segments.specs.Coalesce.{maximalRuns, coalesceOutcome, coalesceList}

@@ -7,7 +7,8 @@ use mathlib.Core.Path.{_≡_, sym, ap, _∙_}
 use mathlib.Core.List.{List}
 use Rattle.ranges.specs.Without.{without}
 use Rattle.ranges.specs.Store.{counted, stored}
-use Rattle.ranges.specs.Outcome.{Outcome, lent, emptySegment, startLargerThanEnd, largeFileSegmentNotSupported, notCoalesced, badStore}
+use Rattle.outcomes.specs.Outcome.{Outcome, lent}
+use Rattle.outcomes.specs.Named.{emptySegment, startLargerThanEnd, largeFileSegmentNotSupported, notCoalesced, badStore}
 use Rattle.ranges.proofs.Good.{good}
 use Rattle.ranges.proofs.Test.{coalesced-of}
 use Rattle.lost_segments.specs.declared.Store.{Store}

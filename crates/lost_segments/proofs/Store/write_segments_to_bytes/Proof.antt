@@ -9,7 +9,8 @@ use mathlib.Core.List.{List, [], _∷_}
 use mathlib.Core.Bool.{true, false}
 use lib.Dec.{eqb}
 use lib.ListN.{length, take}
-use Rattle.ranges.specs.Outcome.{Outcome, accepted, lent, bufferSizeMissmatch, largeSegmentForNormalFileSize, badStore}
+use Rattle.outcomes.specs.Outcome.{Outcome, accepted, lent}
+use Rattle.outcomes.specs.Named.{bufferSizeMissmatch, largeSegmentForNormalFileSize, badStore}
 use Rattle.ranges.specs.Store.{limitOf, isBadStore, anyAbove}
 use Rattle.ranges.proofs.Good.{good}
 use Rattle.octets.specs.declared.LargeFileFlag.{LargeFileFlag}

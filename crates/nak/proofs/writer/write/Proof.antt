@@ -6,7 +6,7 @@ use Rattle.nak.proofs.Flat.{flat-pairs}
 use Rattle.nak.specs.Request.{requestsCase, requestsOutcome}
 use Rattle.nak.specs.Pdu.{saying, pdu}
 use Rattle.octets.specs.Flag.{largestOf}
-use Rattle.ranges.specs.Outcome.{accepted}
+use Rattle.outcomes.specs.Outcome.{accepted}
 use Rattle.ranges.specs.Store.{pairs, flat, anyAbove}
 use mathlib.Core.List.{[], _∷_}
 use mathlib.Core.Bool.{true, false}

@@ -8,7 +8,8 @@ use borrow.Author.Needs.{needs}
 use borrow.Author.Tests.{lt-ltb, le-ltb}
 use mathlib.Core.List.{[], _∷_}
 use Rattle.ranges.specs.Store.{counted, capacity}
-use Rattle.ranges.specs.Outcome.{accepted, storeFull, emptySegment, largeFileSegmentNotSupported, notCoalesced, rangeTooLong, badStore, scopeBelowList}
+use Rattle.outcomes.specs.Outcome.{accepted}
+use Rattle.outcomes.specs.Named.{storeFull, emptySegment, largeFileSegmentNotSupported, notCoalesced, rangeTooLong, badStore, scopeBelowList}
 use Rattle.ranges.proofs.Test.{coalesced-of}
 use Rattle.ranges.proofs.Cutting.{cut-told, full-told}
 use Rattle.reception.specs.declared.Reception.{Reception}

@@ -4,7 +4,8 @@ use mathlib.Core.Path.{_≡_, sym, ap, _∙_}
 use borrow.Author.Needs.{needs}
 use mathlib.Core.Bool.{Bool, false, cond}
 use mathlib.Core.List.{List, []}
-use Rattle.ranges.specs.Outcome.{Outcome, accepted, lent, notCoalesced, badStore, scopeBelowList, alreadyKnown}
+use Rattle.outcomes.specs.Outcome.{Outcome, accepted, lent}
+use Rattle.outcomes.specs.Named.{notCoalesced, badStore, scopeBelowList, alreadyKnown}
 use Rattle.reception.specs.declared.Reception.{Reception}
 use Rattle.reception.specs.Record.{recordOf}
 use Rattle.reception.specs.Metadata.{metadataOutcome, metadataRecord}

@@ -1,0 +1,3 @@
+pub mod Apart
+pub mod Refusals
+pub mod FirstOf

@@ -1,0 +1,4 @@
+pub mod Outcome
+pub mod Refusal
+pub mod Checks
+pub mod Named

@@ -1,0 +1,27 @@
+-- The number of each refusal, and what it also carries (document 01, "Numbers handed back on refusal").
+use mathlib.Core.List.{[], _∷_}
+use Rattle.outcomes.specs.Outcome.{Outcome, refused}
+use Rattle.outcomes.specs.declared.Refusal.{Refusal}
+use Rattle.outcomes.specs.declared.Refusal.the-variants as refusal
+
+abbrev pub refusing : Refusal → Outcome
+refusing refusal.StoreFull = refused 1 []
+refusing refusal.EmptySegment = refused 2 []
+refusing (refusal.StartLargerThanEnd start end) = refused 3 (start ∷ end ∷ [])
+refusing refusal.LargeFileSegmentNotSupported = refused 4 []
+refusing (refusal.InvalidSegmentBoundary start end) = refused 5 (start ∷ end ∷ [])
+refusing (refusal.BufferSizeMissmatch needed given) = refused 6 (needed ∷ given ∷ [])
+refusing refusal.LargeSegmentForNormalFileSize = refused 7 []
+refusing refusal.NotCoalesced = refused 8 []
+refusing refusal.RangeTooLong = refused 9 []
+refusing refusal.BadStore = refused 10 []
+refusing refusal.BadCursor = refused 11 []
+refusing refusal.ScopeBelowList = refused 12 []
+refusing refusal.BadIdentity = refused 13 []
+refusing refusal.PduSize = refused 14 []
+refusing refusal.BadHeader = refused 15 []
+refusing refusal.LengthMismatch = refused 16 []
+refusing refusal.NotNak = refused 17 []
+refusing refusal.ScopeReversed = refused 18 []
+refusing refusal.AlreadyKnown = refused 19 []
+refusing refusal.BudgetTooLarge = refused 20 []
