@@ -51,11 +51,13 @@ pub enum Refusal {
     AlreadyKnown,
     /// 20: the budget is above 16.
     BudgetTooLarge,
+    /// A number that this crate does not know: the archive is not the one that the crate belongs to.
+    Unknown(u64),
 }
 
 impl Refusal {
     /// The refusal of a number and the two values that go with it; `None` for 0, which is acceptance.
-    pub(crate) fn of(number: u64, first: u64, second: u64) -> Option<Refusal> {
+    pub fn of(number: u64, first: u64, second: u64) -> Option<Refusal> {
         Some(match number {
             0 => return None,
             1 => Refusal::StoreFull,
@@ -77,12 +79,12 @@ impl Refusal {
             17 => Refusal::NotNak,
             18 => Refusal::ScopeReversed,
             19 => Refusal::AlreadyKnown,
-            // 20: there is no other number.
-            _ => Refusal::BudgetTooLarge,
+            20 => Refusal::BudgetTooLarge,
+            other => Refusal::Unknown(other),
         })
     }
 
-    /// The refusal's number, 1 to 20.
+    /// The refusal's number.
     pub fn number(&self) -> u64 {
         match self {
             Refusal::StoreFull => 1,
@@ -105,6 +107,7 @@ impl Refusal {
             Refusal::ScopeReversed => 18,
             Refusal::AlreadyKnown => 19,
             Refusal::BudgetTooLarge => 20,
+            Refusal::Unknown(number) => *number,
         }
     }
 }
@@ -142,6 +145,7 @@ impl fmt::Display for Refusal {
             Refusal::ScopeReversed => f.write_str("scope start is above scope end"),
             Refusal::AlreadyKnown => f.write_str("metadata is known already"),
             Refusal::BudgetTooLarge => f.write_str("budget is above 16 PDUs"),
+            Refusal::Unknown(number) => write!(f, "refusal {number}, which this crate does not know"),
         }
     }
 }

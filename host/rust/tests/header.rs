@@ -1,5 +1,6 @@
 //! The declarations of src/ffi.rs are those of host/include/pusmarke.h: functions with their argument types in order, and structs with
-//! their fields.
+//! their fields. The refusals of the crate and of the header are those of the definition, by number and name.
+use pusmarke::Refusal;
 use std::{collections::BTreeMap, fs, path::Path};
 
 fn text(path: &str) -> String {
@@ -115,4 +116,44 @@ fn structs() {
         assert!(fields.len() >= 4);
         assert_eq!(fields, fields_of_rust(&rust, b), "{a}");
     }
+}
+
+/// `STORE_FULL` as Rust says it: `StoreFull`.
+fn camel(name: &str) -> String {
+    name.split('_').map(|w| w[..1].to_string() + &w[1..].to_lowercase()).collect()
+}
+
+/// The refusals of the header's enum, by number.
+fn refusals_of_c(text: &str) -> BTreeMap<u64, String> {
+    let body = text.split_once("PUSMARKE_ACCEPTED = 0,").unwrap().1.split_once('}').unwrap().0;
+    body.split(',')
+        .map(|l| l.trim().split_once(" = ").unwrap())
+        .map(|(name, number)| (number.parse().unwrap(), camel(name.strip_prefix("PUSMARKE_").unwrap())))
+        .collect()
+}
+
+/// Those of the definition, `refusing refusal.StoreFull = refused 1 []`.
+fn refusals_of_the_definition(text: &str) -> BTreeMap<u64, String> {
+    text.lines()
+        .filter_map(|l| l.strip_prefix("refusing ")?.split_once(" = refused "))
+        .map(|(left, right)| (right, left.split_once("refusal.").unwrap().1))
+        .map(|(right, left)| (right.split(' ').next().unwrap().parse().unwrap(), left.split([' ', ')']).next().unwrap().to_string()))
+        .collect()
+}
+
+#[test]
+fn refusals() {
+    let c = refusals_of_c(&bare(&text("../include/pusmarke.h")));
+    let definition = refusals_of_the_definition(&text("../../crates/outcomes/specs/Refusal.antt"));
+    assert!(definition.len() >= 20);
+    assert_eq!(c, definition);
+    for (number, name) in &definition {
+        let refusal = Refusal::of(*number, 7, 8).unwrap();
+        assert_eq!(format!("{refusal:?}").split([' ', '(']).next().unwrap(), name);
+        assert_eq!(refusal.number(), *number);
+    }
+    // A number that is none of these is not turned into another one.
+    let above = definition.keys().max().unwrap() + 1;
+    assert_eq!(Refusal::of(above, 0, 0), Some(Refusal::Unknown(above)));
+    assert_eq!(Refusal::of(0, 0, 0), None);
 }
