@@ -35,7 +35,7 @@ module _ (xs : List ℕ) (st : Store) (s e : ℕ) where
   taken t =
       let lt = t .nonempty in
       let r = t .room in
-      rw (t .good, ne-eqb s e (λ q. omega arith), le-ltb e s (omega arith), le-ltb top s (t .start-within), le-ltb top e (t .end-within), ne-eqb (st .count) (capacity xs) (λ q. omega arith))
+      simp (t .good, ne-eqb s e (λ q. omega arith), le-ltb e s (omega arith), le-ltb top s (t .start-within), le-ltb top e (t .end-within), ne-eqb (st .count) (capacity xs) (λ q. omega arith))
 
   -- only a call that passes every check is accepted
   takes : addOutcome xs st s e .number ≡ 0 → Takes xs st s e
@@ -43,11 +43,11 @@ module _ (xs : List ℕ) (st : Store) (s e : ℕ) where
     where
       go : (t : Bool) → isBadStore xs (st .count) top ≡ t → (u : Bool) → eqb s e ≡ u → (v : Bool) → ltb e s ≡ v → (w : Bool) → eitherAbove top s e ≡ w
           → (z : Bool) → eqb (st .count) (capacity xs) ≡ z → addOutcome xs st s e .number ≡ 0 → Takes xs st s e
-      go true f u g v h w i z j k = absurd (omega (arith, rw f at k))
-      go false f true g v h w i z j k = absurd (omega (arith, rw (f, g) at k))
-      go false f false g true h w i z j k = absurd (omega (arith, rw (f, g, h) at k))
-      go false f false g false h true i z j k = absurd (omega (arith, rw (f, g, h, i) at k))
-      go false f false g false h false i true j k = absurd (omega (arith, rw (f, g, h, i, j) at k))
+      go true f u g v h w i z j k = absurd (omega (arith, simp f at k))
+      go false f true g v h w i z j k = absurd (omega (arith, simp (f, g) at k))
+      go false f false g true h w i z j k = absurd (omega (arith, simp (f, g, h) at k))
+      go false f false g false h true i z j k = absurd (omega (arith, simp (f, g, h, i) at k))
+      go false f false g false h false i true j k = absurd (omega (arith, simp (f, g, h, i, j) at k))
       go false f false g false h false i false j k =
           let p = good xs (st .count) top f in
           let q : s ≡ e → ⊥ = eqb-false _ _ g in

@@ -62,11 +62,11 @@ module _ (xs : List ℕ) (st : Store) (a b : ℕ) where
     where
       go : (t : Bool) → isBadStore xs (st .count) top ≡ t → (u : Bool) → eitherAbove top a b ≡ u → (v : Bool) → eqb a b ≡ v → (w : Bool) → ltb b a ≡ w
           → (z : Bool) → isCoalesced rs ≡ z → Late (removeOutcome xs st a b .number) → Passes xs st a b
-      go true f u g v h w i z j k = absurd (⊎-elim (λ q. omega arith) (λ q. omega arith) (rw f at k))
-      go false f true g v h w i z j k = absurd (⊎-elim (λ q. omega arith) (λ q. omega arith) (rw (f, g) at k))
-      go false f false g true h w i z j k = absurd (⊎-elim (λ q. omega arith) (λ q. omega arith) (rw (f, g, h) at k))
-      go false f false g false h true i z j k = absurd (⊎-elim (λ q. omega arith) (λ q. omega arith) (rw (f, g, h, i) at k))
-      go false f false g false h false i false j k = absurd (⊎-elim (λ q. omega arith) (λ q. omega arith) (rw (f, g, h, i, j) at k))
+      go true f u g v h w i z j k = absurd (⊎-elim (λ q. omega arith) (λ q. omega arith) (simp f at k))
+      go false f true g v h w i z j k = absurd (⊎-elim (λ q. omega arith) (λ q. omega arith) (simp (f, g) at k))
+      go false f false g true h w i z j k = absurd (⊎-elim (λ q. omega arith) (λ q. omega arith) (simp (f, g, h) at k))
+      go false f false g false h true i z j k = absurd (⊎-elim (λ q. omega arith) (λ q. omega arith) (simp (f, g, h, i) at k))
+      go false f false g false h false i false j k = absurd (⊎-elim (λ q. omega arith) (λ q. omega arith) (simp (f, g, h, i, j) at k))
       go false f false g false h false i true j k =
           let o = or-false (ltb top a) (ltb top b) g in
           let q : a ≡ b → ⊥ = eqb-false _ _ h in
@@ -76,7 +76,7 @@ module _ (xs : List ℕ) (st : Store) (a b : ℕ) where
   passes : Passes xs st a b → removeOutcome xs st a b ≡ removeFrom (capacity xs) rs a b
   passes p =
       let lt = p .ordered in
-      rw (p .good, le-ltb top a (p .a-within), le-ltb top b (p .b-within), ne-eqb a b (λ q. omega arith), le-ltb b a (omega arith), of-coalesced rs (p .coalesced))
+      simp (p .good, le-ltb top a (p .a-within), le-ltb top b (p .b-within), ne-eqb a b (λ q. omega arith), le-ltb b a (omega arith), of-coalesced rs (p .coalesced))
 
   -- the four ends of a call that passes the checks
   data End : Outcome → Type 0 where
@@ -120,10 +120,10 @@ module _ (xs : List ℕ) (st : Store) (a b : ℕ) where
       where
         go : (t : Bool) → some (inside a b) rs ≡ t → (u : Bool) → ltb (capacity xs) (length left) ≡ u → (v : Bool) → some (shares a b) rs ≡ v
             → End (removeFrom (capacity xs) rs a b)
-        go true e true f v g = let w = too-many (ltb-true _ _ f) in rw (e, f) (full (w .0) (w .1))
-        go true e false f v g = rw (e, f) (gone (inside-set a b lt rs s .0 e) (room (ltb-false _ _ f)))
-        go false e u f true g = rw (e, g) (bound (λ h. true≢false (sym (inside-set a b lt rs s .1 h) ∙ e)) (shares-set a b lt rs s .0 g))
-        go false e u f false g = rw (e, g) (none (λ h. true≢false (sym (shares-set a b lt rs s .1 h) ∙ g)) (without-none a b lt 0 rs s g))
+        go true e true f v g = let w = too-many (ltb-true _ _ f) in simp (e, f) (full (w .0) (w .1))
+        go true e false f v g = simp (e, f) (gone (inside-set a b lt rs s .0 e) (room (ltb-false _ _ f)))
+        go false e u f true g = simp (e, g) (bound (λ h. true≢false (sym (inside-set a b lt rs s .1 h) ∙ e)) (shares-set a b lt rs s .0 g))
+        go false e u f false g = simp (e, g) (none (λ h. true≢false (sym (shares-set a b lt rs s .1 h) ∙ g)) (without-none a b lt 0 rs s g))
 
     true-of : Inside a b rs → Room → removeOutcome xs st a b ≡ accepted (1 ∷ length left ∷ [])
     true-of f r = go (removeOutcome xs st a b) end
