@@ -24,7 +24,6 @@ use Rattle.nak.specs.Inner.{GoodLengths}
 use Rattle.nak.proofs.Parts.{length-header, length-data, length-pdu}
 use Rattle.nak.proofs.Checks.{neither, good-lengths, GoodNumbers, good-numbers, NakFine}
 use Rattle.nak_parser.specs.Parser.{octetAt, fieldAt, flagIn, fieldLengthIn, entityLengthIn, numberLengthIn, headerLengthIn, lengthField, scopeAt, requestsAt, requestsIn, identityIn, scopeIn, requestsOf, nakIn, wrongLength, wrongData, shapeOutcome, readOutcome}
-use Rattle.nak_parser.proofs.Handed.{requests-at}
 use Rattle.nak_parser.proofs.Reading.{header-is, shape-fine, read-fine}
 
 -- the number of a field that stands behind x
@@ -213,7 +212,8 @@ module _ (n : Nak) (fine : NakFine n) where
       rw (field-length-back, start-back (a .0), end-back (b .0))
 
   requests-at-back : requestsAt (pdu n) ≡ headerLengthIn (pdu n) + 1 + 2 * fieldLength (n .flag)
-  requests-at-back = requests-at (pdu n) ∙ rw field-length-back
+  unfolding requestsAt scopeAt
+  requests-at-back = rw field-length-back
 
   pub rest : drop (requestsAt (pdu n)) (pdu n) ≡ fields (fieldLength (n .flag)) (flat (n .requests))
   unfolding re

@@ -21,7 +21,6 @@ use Rattle.nak.specs.Pdu.{nakCode, headerOctets, identityOctets, dataOctets, da
 use Rattle.nak.proofs.Parts.{length-data}
 use Rattle.nak.proofs.Checks.{neither}
 use Rattle.nak_parser.specs.Parser.{octetAt, fieldAt, flagIn, fieldLengthIn, entityLengthIn, numberLengthIn, headerLengthIn, lengthField, scopeAt, requestsAt, requestsIn, identityIn, scopeIn, requestsOf, nakIn}
-use Rattle.nak_parser.proofs.Handed.{requests-at}
 use Rattle.nak_parser.proofs.Reading.{Read, header-is}
 
 -- an octet of octets is below 256
@@ -110,6 +109,10 @@ room-forth Large total h len a b c = omega arith
 pub f-is : (p : List ℕ) → fieldLengthIn p ≡ fieldLength (flagIn p)
 unfolding fieldLengthIn
 f-is p = refl
+
+requests-at : (p : List ℕ) → requestsAt p ≡ headerLengthIn p + 1 + 2 * fieldLengthIn p
+unfolding requestsAt scopeAt
+requests-at p = refl
 
 -- the octets behind the scope are those of whole requests
 pub requests-room : (p : List ℕ) → Read p → length p - requestsAt p ≡ (length p - requestsAt p) / (2 * fieldLengthIn p) * (2 * fieldLengthIn p)

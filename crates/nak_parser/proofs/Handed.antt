@@ -9,13 +9,9 @@ use lib.ListN.{length, getD, take, drop, length-drop}
 use lib.Seq.{take-all}
 use borrow.Author.Tests.{eqb-true, eqb-false, ne-eqb, le-ltb, lt-ltb}
 use Rattle.outcomes.specs.Outcome.{accepted, lent}
-use Rattle.nak_parser.specs.Parser.{fieldLengthIn, headerLengthIn, scopeAt, requestsAt, readOutcome, acceptedParsed, refusedParsed, parsedOf, requestsPart}
+use Rattle.nak_parser.specs.Parser.{fieldLengthIn, scopeAt, requestsAt, readOutcome, acceptedParsed, refusedParsed, parsedOf, requestsPart}
 use Rattle.nak_parser.specs.Step.{atEnd}
 use Rattle.nak_parser.proofs.Reading.{Read, read-of}
-
-pub requests-at : (p : List ℕ) → requestsAt p ≡ headerLengthIn p + 1 + 2 * fieldLengthIn p
-unfolding requestsAt scopeAt
-requests-at p = refl
 
 pub parsed-accepted : (p : List ℕ) → readOutcome p ≡ accepted [] → parsedOf p ≡ acceptedParsed p
 unfolding parsedOf
@@ -27,7 +23,8 @@ parsed-refused p h = rw (ne-eqb (readOutcome p .number) 0 h)
 
 -- the requests of an accepted packet start in it
 pub requests-in : (p : List ℕ) → Read p → requestsAt p ≤ length p
-requests-in p r = let s = r .shape in let e = requests-at p in omega arith
+unfolding requestsAt scopeAt
+requests-in p r = let s = r .shape in omega arith
 
 -- where the part of the requests starts and ends
 pub record Part (p : List ℕ) : Type 0 where

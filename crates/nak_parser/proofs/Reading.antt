@@ -22,7 +22,7 @@ use Rattle.nak.specs.Pdu.{nakCode}
 use Rattle.nak.specs.Request.{requestsOutcome}
 use Rattle.nak.proofs.Requests.{requests-either}
 use Rattle.nak.proofs.Checks.{neither, must-be-false, not-both}
-use Rattle.nak_parser.specs.Parser.{octetAt, fieldAt, flagIn, fieldLengthIn, entityLengthIn, numberLengthIn, headerLengthIn, lengthField, scopeAt, requestsAt, requestsIn, scopeIn, requestsOf, wrongLength, wrongData, shapeOutcome, readOutcome, refusedParsed, parsedOf}
+use Rattle.nak_parser.specs.Parser.{octetAt, fieldAt, flagIn, fieldLengthIn, entityLengthIn, numberLengthIn, headerLengthIn, lengthField, scopeAt, behindScope, requestsAt, requestsIn, scopeIn, requestsOf, wrongLength, wrongData, shapeOutcome, readOutcome, refusedParsed, parsedOf}
 
 pub not-zero : (k : ℕ) → eqb (suc k) 0 ≡ false
 not-zero k = ne-eqb (suc k) 0 (λ e. omega arith)
@@ -33,7 +33,7 @@ module _ (p : List ℕ) where
   unfolding scopeIn scopeAt
   is-scope h f a b = rw (a, b, h, f)
 
-  pub is-place : {at f : ℕ} → at ≡ headerLengthIn p + 1 → f ≡ fieldLengthIn p → at + 2 * f ≡ requestsAt p
+  pub is-place : {at f : ℕ} → at ≡ headerLengthIn p + 1 → f ≡ fieldLengthIn p → behindScope at f ≡ requestsAt p
   unfolding requestsAt scopeAt
   is-place h f = rw (h, f)
 

@@ -24,7 +24,7 @@ use Rattle.nak.proofs.Checks.{numbersOf, GoodNumbers, not-bad-identity, NakFine
 use Rattle.nak_parser.specs.declared.Parsed.{Parsed}
 use Rattle.nak_parser.specs.Parser.{requestsPart, acceptedParsed, Says, flagIn, fieldLengthIn, entityLengthIn, numberLengthIn, headerLengthIn, scopeAt, requestsAt, requestsIn, identityIn, scopeIn, requestsOf, nakIn, readOutcome}
 use Rattle.nak_parser.proofs.Reading.{Read, read-of, header-is, entity-low, entity-high, number-low, number-high}
-use Rattle.nak_parser.proofs.Handed.{requests-at, parsed-accepted}
+use Rattle.nak_parser.proofs.Handed.{parsed-accepted}
 use Rattle.nak_parser.proofs.Back.{nak-back, read-back, rest}
 use Rattle.nak_parser.proofs.Forth.{part-low, f-is, requests-room, length-requests-in, pdu-forth}
 
@@ -105,7 +105,6 @@ module _ (p : List ℕ) (a : AllOctets p) (r : Read p) where
   unfolding scopeIn scopeAt requestsOf
   numbers-in =
       let t = r .shape in
-      let w = requests-at p in
       let g = flagIn p in
       let x = above-one g (scopeIn p .start) (f-is p) (part-low p (headerLengthIn p + 1) (fieldLengthIn p) a (omega arith)) in
       let y = above-one g (scopeIn p .end) (f-is p) (part-low p (headerLengthIn p + 1 + fieldLengthIn p) (fieldLengthIn p) a (omega arith)) in

@@ -10,6 +10,7 @@ use lib.ListN.{length, getD, drop, replicate}
 use lib.Seq.{drop-drop}
 use borrow.Author.Tests.{eqb-true}
 use Rattle.outcomes.specs.Outcome.{Outcome, accepted}
+use Rattle.nak_parser.specs.declared.Found.{Found}
 use Rattle.nak_parser.specs.declared.Step.{Step}
 use Rattle.nak_parser.specs.declared.Step.the-variants.{Request, End}
 use Rattle.nak_parser.specs.Parser.{fieldLengthIn, requestsAt, requestsIn, requestsOf, readOutcome, parsedOf}
@@ -67,3 +68,16 @@ step-back End = refl
 
 pub step-injective : (r s : Step) → stepCase r ≡ stepCase s → r ≡ s
 step-injective r s e = sym (step-back r) ∙ ap step e ∙ step-back s
+
+-- Two that meet the contract of `next_at`, or of the reader's `step_from`, for one packet and place are equal. Of `parse` that is
+-- its contract: what it hands back equals `parsedOf`.
+pub one-found :
+    (p : List ℕ) (at : ℕ) (r s : Found)
+    → (stepCase (r .step) ≡ stepOutcome p at) × (r .at ≡ placeAfter p at)
+    → (stepCase (s .step) ≡ stepOutcome p at) × (s .at ≡ placeAfter p at)
+    → r ≡ s
+one-found p at r s a b =
+    ap (λ (z : Step). found z (r .at)) (step-injective (r .step) (s .step) (a .0 ∙ sym (b .0))) ∙ ap (found (s .step)) (a .1 ∙ sym (b .1))
+  where
+    found : Step → ℕ → Found
+    found z n = record { step = z; at = n }

@@ -54,9 +54,13 @@ lengthField p = fieldAt p 1 2
 unfoldable pub scopeAt : List ℕ → ℕ
 scopeAt p = headerLengthIn p + 1
 
+-- The place behind a scope, start and end of f octets each.
+abbrev pub behindScope : ℕ → ℕ → ℕ
+behindScope at f = at + 2 * f
+
 -- Where the requests start: behind the scope.
 unfoldable pub requestsAt : List ℕ → ℕ
-requestsAt p = scopeAt p + 2 * fieldLengthIn p
+requestsAt p = behindScope (scopeAt p) (fieldLengthIn p)
 
 -- The first n requests that octets hold: start and end, f octets each.
 abbrev pub requestsIn : ℕ → ℕ → List ℕ → List Range

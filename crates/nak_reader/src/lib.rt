@@ -71,3 +71,11 @@ pub fn step_from(packet: &[u8], at: usize) -> Found
         at: taken.reader.at,
     }
 }
+
+// What `read` says of a packet, in plain values: whoever calls this needs no walk.
+pub fn read_fields(packet: &[u8]) -> Parsed
+    ensures { λ r. ⌜ r ≡ parsedOf (now (packet .entry)) ⌝ }
+{
+    let got = read(packet);
+    got.parsed
+}

@@ -72,11 +72,22 @@ fn show_flag(out: &mut [u8; 65536], at: usize, flag: LargeFileFlag) -> usize {
     }
 }
 
+// A step for each request of the part that holds them, and one that says the end.
+fn steps_of(part: &[u8], flag: LargeFileFlag) -> usize {
+    part.len() / (2 * flag.field_length()) + 1
+}
+
 // Steps the reader from a place to its end.
-fn show_requests(out: &mut [u8; 65536], at: usize, packet: &[u8], from: usize) -> usize {
+fn show_requests(
+    out: &mut [u8; 65536],
+    at: usize,
+    packet: &[u8],
+    from: usize,
+    steps: usize,
+) -> usize {
     let mut printed = at;
     let mut next = from;
-    let mut left = packet.len();
+    let mut left = steps;
     while 0 < left {
         let found = nak_reader::step_from(packet, next);
         let step = found.step;
@@ -92,7 +103,7 @@ fn show_requests(out: &mut [u8; 65536], at: usize, packet: &[u8], from: usize) -
 }
 
 fn read_packet(s: State, packet: &[u8], out: &mut [u8; 65536]) -> State {
-    let parsed = nak_parser::parse(packet);
+    let parsed = nak_reader::read_fields(packet);
     if parsed.refusal != 0 {
         let a = c_answers::inner::with_two(parsed.refusal, parsed.start, parsed.end);
         return answers::show_refusal(s, a, out);
@@ -108,7 +119,8 @@ fn read_packet(s: State, packet: &[u8], out: &mut [u8; 65536]) -> State {
     at = show_flag(out, at, flag);
     at = print::number(out, at, parsed.scope_start);
     at = print::number(out, at, parsed.scope_end);
-    at = show_requests(out, at, packet, parsed.next);
+    let steps = steps_of(nak_parser::requests(packet), flag);
+    at = show_requests(out, at, packet, parsed.next, steps);
     state::answered(s, out, at)
 }
 

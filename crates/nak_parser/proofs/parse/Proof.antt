@@ -1,6 +1,6 @@
 -- `nak_parser::parse` meets its contract: each return is what is handed back after the checks passed before it.
 use Rattle.nak_parser.proofs.Reading.{is-scope, is-place, is-requests, field-low, field-high, header-high, read-18, read-request, read-14, read-fine, shape-of, parsed-shape}
-use Rattle.nak_parser.specs.Parser.{scopeIn, requestsOf, acceptedParsed, parsedOf}
+use Rattle.nak_parser.specs.Parser.{behindScope, scopeIn, requestsOf, acceptedParsed, parsedOf}
 use native.Mathlib.Nat.{mul-div-le}
 use Rattle.nak.specs.Request.{requestsCase, requestsOutcome}
 use Rattle.outcomes.specs.Outcome.{accepted}
@@ -142,7 +142,7 @@ check-packet-requires c κs =
     let fl = field-low p in
     let fh = field-high p in
     let hh = header-high p in
-    let m = mul-div-le (length p - (c .before .before .before .before .header-length-in .result + 1 + 2 * c .before .before .before .field-length-in .result)) (2 * c .before .before .before .field-length-in .result) in
+    let m = mul-div-le (length p - behindScope (c .before .before .before .before .header-length-in .result + 1) (c .before .before .before .field-length-in .result)) (2 * c .before .before .before .field-length-in .result) in
     omega arith
 
 enum-known-answer : tie.Need-enum-known-answer

@@ -1,15 +1,14 @@
 -- `pusmarke::pdus::show_requests` is safe and ends.
 use borrow.Author.Needs.{needs}
 use Prim.Native.Nat.{_≤_}
-use lib.ListN.{length}
 use Rattle.pusmarke.proofs.pdus.show_requests.Statement.{statement}
 use Rattle.pusmarke.proofs.pdus.show_requests.Tie as tie
 
 abbrev Inv-loop : tie.InvT-loop
-Inv-loop out₀ at packet from printed₀ next₀ left₀ out printed next left = left ≤ length packet
+Inv-loop out₀ at packet from steps printed₀ next₀ left₀ out printed next left = left ≤ steps
 
 abbrev μ-loop : tie.MeasureT-loop
-μ-loop out₀ at packet from printed₀ next₀ left₀ out printed next left = left
+μ-loop out₀ at packet from steps printed₀ next₀ left₀ out printed next left = left
 
 loop-holds : tie.Need-loop-holds Inv-loop μ-loop
 loop-holds c = search needs
