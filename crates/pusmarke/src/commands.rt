@@ -1,13 +1,14 @@
 // A line of commands: its name, its words, what it does.
 ghost use Prim.Native.Nat.{_≤_};
 ghost use lib.ListN.{length};
-use crate::events;
-use crate::pdus;
-use crate::state;
-use crate::state::State;
-use crate::store;
-use crate::words;
-use crate::words::Arguments;
+use console_calls::inner::events;
+use console_calls::inner::pdus;
+use console_calls::inner::state;
+use console_calls::inner::state::State;
+use console_calls::inner::store;
+use console_text::inner::part;
+use console_text::inner::words;
+use console_text::inner::words::Arguments;
 
 pub enum Command {
     New,
@@ -193,6 +194,6 @@ pub fn end_line(
     if s.overlong {
         return state::error(next, out);
     }
-    let filled = state::first_octets(line, s.filled);
+    let filled = part::first_octets(line, s.filled);
     run(next, &line[..filled], memory, values, buf, out)
 }

@@ -1,17 +1,12 @@
 // The console: commands, one a line, from a file or standard input; an answer to each on standard output (docs/CONSOLE.md).
 // A program has no public calls: `pub` lets its modules call one another, and a `requires` is what each caller here has seen to.
+use console_calls::inner::state;
+use console_calls::inner::state::State;
+use console_text::inner::print;
 use libc::STDERR_FILENO;
 use libc::STDIN_FILENO;
-use state::State;
 
-mod answers;
 mod commands;
-mod events;
-mod pdus;
-mod print;
-mod state;
-mod store;
-mod words;
 
 // Takes one octet of the input: a newline ends the line, any other octet lengthens it.
 fn take_octet(

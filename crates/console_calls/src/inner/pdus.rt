@@ -1,0 +1,196 @@
+// NAK PDUs: written, read, and the sequence.
+ghost use Prim.Native.Nat.{_≤_};
+ghost use lib.ListN.{length};
+use crate::inner::answers;
+use crate::inner::state;
+use crate::inner::state::State;
+use crate::inner::store::flag_of;
+use c_answers::PusmarkeAnswer;
+use console_text::inner::part;
+use console_text::inner::print;
+use nak::Identity;
+use nak_parser::Step;
+use nak_parser::inner::header_length_in;
+use nak_parser::inner::length_field;
+use octets::LargeFileFlag;
+
+// The first five words of `write` and `nak`: the lengths of the identifiers, source, number, destination.
+fn identity_of(values: &[u64; 8209]) -> Identity {
+    Identity {
+        entity_length: values[0] as usize,
+        number_length: values[1] as usize,
+        source: values[2],
+        number: values[3],
+        destination: values[4],
+    }
+}
+
+// The requests of `write` are the words behind the first nine.
+fn write_requests(
+    s: State,
+    values: &[u64; 8209],
+    requests: &[u64],
+    buf: &mut [u8],
+    out: &mut [u8; 65536],
+) -> State {
+    let size = part::first_octets(buf, values[8] as usize);
+    let a = c_answers::pdu::of_write(nak::writer::write(
+        identity_of(values),
+        flag_of(values[5]),
+        values[6],
+        values[7],
+        requests,
+        &mut buf[..size],
+    ));
+    if a.refusal != 0 {
+        return answers::show_refusal(s, a, out);
+    }
+    let at = print::text(out, s.at, b"pdu ");
+    let written = part::first_octets(buf, size);
+    let end = print::hex(out, at, &buf[..written]);
+    state::answered(s, out, end)
+}
+
+pub fn write(
+    s: State,
+    values: &[u64; 8209],
+    words: &[u64],
+    n: usize,
+    buf: &mut [u8],
+    out: &mut [u8; 65536],
+) -> State {
+    let to = part::at_most(n, words.len());
+    if to < 9 {
+        return state::error(s, out);
+    }
+    write_requests(s, values, &words[9..to], buf, out)
+}
+
+fn show_flag(out: &mut [u8; 65536], at: usize, flag: LargeFileFlag) -> usize {
+    match flag {
+        LargeFileFlag::Normal => print::text(out, at, b" normal"),
+        LargeFileFlag::Large => print::text(out, at, b" large"),
+    }
+}
+
+// A step for each request of the part that holds them, and one that says the end.
+fn steps_of(part: &[u8], flag: LargeFileFlag) -> usize {
+    part.len() / (2 * flag.field_length()) + 1
+}
+
+// Steps the reader from a place to its end.
+fn show_requests(
+    out: &mut [u8; 65536],
+    at: usize,
+    packet: &[u8],
+    from: usize,
+    steps: usize,
+) -> usize {
+    let mut printed = at;
+    let mut next = from;
+    let mut left = steps;
+    while 0 < left {
+        let found = nak_reader::step_from(packet, next);
+        let step = found.step;
+        let Step::Request(start, end) = step else {
+            return printed;
+        };
+        printed = print::number(out, printed, start);
+        printed = print::number(out, printed, end);
+        next = found.at;
+        left -= 1;
+    }
+    printed
+}
+
+fn read_packet(s: State, packet: &[u8], out: &mut [u8; 65536]) -> State {
+    let parsed = nak_reader::read_fields(packet);
+    if parsed.refusal != 0 {
+        let a = c_answers::inner::with_two(parsed.refusal, parsed.start, parsed.end);
+        return answers::show_refusal(s, a, out);
+    }
+    let identity = parsed.identity;
+    let flag = parsed.flag;
+    let mut at = print::text(out, s.at, b"nak");
+    at = print::number(out, at, identity.entity_length as u64);
+    at = print::number(out, at, identity.number_length as u64);
+    at = print::number(out, at, identity.source);
+    at = print::number(out, at, identity.number);
+    at = print::number(out, at, identity.destination);
+    at = show_flag(out, at, flag);
+    at = print::number(out, at, parsed.scope_start);
+    at = print::number(out, at, parsed.scope_end);
+    let steps = steps_of(nak_parser::requests(packet), flag);
+    at = show_requests(out, at, packet, parsed.next, steps);
+    state::answered(s, out, at)
+}
+
+pub fn read(s: State, buf: &[u8], n: usize, out: &mut [u8; 65536]) -> State {
+    let size = part::first_octets(buf, n);
+    read_packet(s, &buf[..size], out)
+}
+
+// The length of the first PDU of these octets, by its own header; all of them where no header fits.
+fn pdu_length(octets: &[u8]) -> usize
+    ensures { λ r. ⌜ r ≤ length (now (octets .entry)) ⌝ }
+{
+    let all = octets.len();
+    if all < 4 {
+        return all;
+    }
+    let header = part::at_most(header_length_in(octets), all);
+    header + part::at_most(length_field(octets), all - header)
+}
+
+// A line for each PDU.
+fn show_pdus(s: State, octets: &[u8], pdus: u64, out: &mut [u8; 65536]) -> State {
+    let mut next = s;
+    let mut at = 0;
+    let mut left = pdus;
+    while 0 < left {
+        let end = at + pdu_length(&octets[at..]);
+        let word = print::text(out, next.at, b"pdu ");
+        let place = print::hex(out, word, &octets[at..end]);
+        next = state::answered(next, out, place);
+        at = end;
+        left -= 1;
+    }
+    next
+}
+
+// The PDUs, and then how many there are, their octets and the new cursor.
+fn show_sent(s: State, octets: &[u8], a: PusmarkeAnswer, out: &mut [u8; 65536]) -> State {
+    let next = show_pdus(s, octets, a.first, out);
+    let mut at = print::text(out, next.at, b"sent");
+    at = print::number(out, at, a.first);
+    at = print::number(out, at, a.second);
+    at = print::number(out, at, a.third);
+    state::answered(next, out, at)
+}
+
+pub fn sequence(
+    s: State,
+    memory: &[u64],
+    values: &[u64; 8209],
+    buf: &mut [u8],
+    out: &mut [u8; 65536],
+) -> State {
+    let lent = part::first_numbers(memory, s.length);
+    let size = part::first_octets(buf, values[9] as usize);
+    let rec = s.rec;
+    let a = c_answers::sequence::of_sequence(nak_sequence::write_nak_sequence(
+        rec,
+        &memory[..lent],
+        identity_of(values),
+        flag_of(values[5]),
+        values[6] as usize,
+        values[7] as usize,
+        values[8] as usize,
+        &mut buf[..size],
+    ));
+    if a.refusal != 0 {
+        return answers::show_refusal(s, a, out);
+    }
+    let octets = part::first_octets(buf, a.second as usize);
+    show_sent(s, &buf[..octets], a, out)
+}

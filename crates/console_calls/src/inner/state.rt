@@ -1,0 +1,178 @@
+// What the console holds from line to line, and the commands that set and show it.
+ghost use Prim.Native.Nat.{_≤_};
+ghost use lib.ListN.{length};
+use console_text::inner::part;
+use console_text::inner::print;
+use ranges::Width;
+use ranges::inner::moves::tidy;
+use reception::Reception;
+
+pub struct State {
+    // The record; how many numbers of the memory are lent as its list.
+    pub rec: Reception,
+    pub length: usize,
+    // Lines ended so far; octets of the present line, and whether more came than a line may have.
+    pub lines: u64,
+    pub filled: usize,
+    pub overlong: bool,
+    // Octets that wait in the output buffer.
+    pub at: usize,
+}
+
+// As after `new wide 4096`.
+pub fn start() -> State {
+    State {
+        rec: Reception::fresh(Width::Wide),
+        length: 8192,
+        lines: 0,
+        filled: 0,
+        overlong: false,
+        at: 0,
+    }
+}
+
+pub fn with_record(s: State, rec: Reception) -> State {
+    let mut next = s;
+    next.rec = rec;
+    next
+}
+
+pub fn with_count(s: State, count: usize) -> State {
+    let mut rec = s.rec;
+    rec.count = count;
+    with_record(s, rec)
+}
+
+// The answer ends at `at`.
+pub fn answered(s: State, out: &mut [u8; 65536], at: usize) -> State {
+    let mut next = s;
+    next.at = print::put(out, at, b'\n');
+    next
+}
+
+// A word alone as the answer.
+pub fn says(s: State, out: &mut [u8; 65536], word: &[u8]) -> State {
+    let at = print::text(out, s.at, word);
+    answered(s, out, at)
+}
+
+// A line that can't be taken.
+pub fn error(s: State, out: &mut [u8; 65536]) -> State {
+    let at = print::text(out, s.at, b"error");
+    let end = print::number(out, at, s.lines);
+    answered(s, out, end)
+}
+
+fn width_of(mark: u64) -> Width {
+    if mark == 0 {
+        Width::Wide
+    } else {
+        Width::Narrow
+    }
+}
+
+// new: a fresh reception of that width with room for that many ranges.
+pub fn new(s: State, memory: &mut [u64], narrow: u64, ranges: u64, out: &mut [u8; 65536]) -> State {
+    tidy(memory, 0, memory.len() / 2);
+    let mut next = with_record(s, Reception::fresh(width_of(narrow)));
+    next.length = 2 * part::at_most(ranges as usize, 4096);
+    says(next, out, b"ok")
+}
+
+// lend: how many numbers are lent.
+pub fn lend(s: State, length: u64, out: &mut [u8; 65536]) -> State {
+    let mut next = s;
+    next.length = length as usize;
+    says(next, out, b"ok")
+}
+
+// load: progress, the metadata mark and the count, unchecked.
+pub fn load(s: State, progress: u64, missing: u64, count: u64, out: &mut [u8; 65536]) -> State {
+    let mut rec = s.rec;
+    rec.progress = progress;
+    rec.missing = missing != 0;
+    rec.count = count as usize;
+    says(with_record(s, rec), out, b"ok")
+}
+
+fn copy(to: &mut [u64], from: &[u64])
+    requires { ⌜ length (now to) ≤ length (now from) ⌝ }
+{
+    let mut i = 0;
+    while i < to.len() {
+        to[i] = from[i];
+        i += 1;
+    }
+}
+
+// poke: the numbers behind the first of n words go into the memory from place `at` on.
+pub fn poke(
+    s: State,
+    memory: &mut [u64],
+    at: u64,
+    values: &[u64],
+    n: usize,
+    out: &mut [u8; 65536],
+) -> State {
+    let words = part::at_most(n, values.len());
+    let from = at as usize;
+    if words == 0 {
+        return error(s, out);
+    }
+    if memory.len() < from {
+        return error(s, out);
+    }
+    if memory.len() - from < words - 1 {
+        return error(s, out);
+    }
+    let to = from + (words - 1);
+    copy(&mut memory[from..to], &values[1..words]);
+    says(s, out, b"ok")
+}
+
+fn numbers(out: &mut [u8; 65536], at: usize, list: &[u64]) -> usize {
+    let mut place = at;
+    let mut i = 0;
+    while i < list.len() {
+        place = print::number(out, place, list[i]);
+        i += 1;
+    }
+    place
+}
+
+fn show_width(out: &mut [u8; 65536], at: usize, width: Width) -> usize {
+    match width {
+        Width::Wide => print::text(out, at, b"wide"),
+        Width::Narrow => print::text(out, at, b"narrow"),
+    }
+}
+
+fn show_missing(out: &mut [u8; 65536], at: usize, missing: bool) -> usize {
+    if missing {
+        print::text(out, at, b" missing")
+    } else {
+        print::text(out, at, b" known")
+    }
+}
+
+// show: the state and the counted numbers.
+pub fn show(s: State, memory: &[u64], out: &mut [u8; 65536]) -> State {
+    let rec = s.rec;
+    let width = rec.width;
+    let mut at = show_width(out, s.at, width);
+    at = print::number(out, at, s.length as u64);
+    at = print::number(out, at, rec.count as u64);
+    at = print::number(out, at, rec.progress);
+    at = show_missing(out, at, rec.missing);
+    let counted = part::first_numbers(memory, 2 * part::at_most(rec.count, 4100));
+    at = numbers(out, at, &memory[..counted]);
+    answered(s, out, at)
+}
+
+// slots: the first numbers of the memory.
+pub fn slots(s: State, memory: &[u64], n: u64, out: &mut [u8; 65536]) -> State {
+    let first = part::first_numbers(memory, n as usize);
+    let at = print::text(out, s.at, b"slots");
+    let end = numbers(out, at, &memory[..first]);
+    answered(s, out, end)
+}
