@@ -6,17 +6,19 @@ use mathlib.Core.List.{List, [], _∷_}
 use lib.ListN.{length}
 use lib.Dec.{ltb}
 use Rattle.ranges.specs.Range.{Range, range}
-use Rattle.ranges.specs.Store.{counted, limitOf, isBadStore, stored}
+use Rattle.ranges.specs.Store.{counted, stored}
 use Rattle.outcomes.specs.Outcome.{Outcome, accepted, lent}
-use Rattle.outcomes.specs.Named.{badStore}
+use Rattle.outcomes.specs.Refusal.{refusing}
+use Rattle.outcomes.specs.Checks.{firstOf}
 use Rattle.lost_segments.specs.declared.Store.{Store}
+use Rattle.lost_segments.specs.Checks.{storeChecks}
 use Rattle.lost_segments.specs.declared.coalesce.CoalesceAnswer.{CoalesceAnswer}
 use Rattle.lost_segments.specs.declared.coalesce.CoalesceAnswer.the-variants as answer
 
 -- The number and the values of each case of the answer.
 abbrev pub coalesceCase : CoalesceAnswer → Outcome
 coalesceCase (answer.Coalesced count) = accepted (count ∷ [])
-coalesceCase answer.BadStore = badStore
+coalesceCase (answer.Refused r) = refusing r
 
 -- The one range of two that overlap or are adjacent.
 abbrev pub joined : Range → Range → Range
@@ -45,9 +47,9 @@ gather qs (r ∷ rs) = gather (join r qs) rs
 unfoldable pub maximalRuns : List Range → List Range
 maximalRuns rs = gather [] rs
 
+-- Checks: 10. An accepted call hands back the number of the runs.
 abbrev pub coalesceOutcome : List ℕ → Store → Outcome
-coalesceOutcome xs st =
-    cond (isBadStore xs (st .count) (limitOf (st .width))) badStore (accepted (length (maximalRuns (counted xs (st .count))) ∷ []))
+coalesceOutcome xs st = firstOf (storeChecks xs st) (accepted (length (maximalRuns (counted xs (st .count))) ∷ []))
 
 abbrev pub coalesceList : List ℕ → Store → List ℕ
 coalesceList xs st = lent (coalesceOutcome xs st) (stored (maximalRuns (counted xs (st .count))) (st .count) xs) xs

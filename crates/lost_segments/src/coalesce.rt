@@ -8,12 +8,15 @@ ghost use Rattle.pair_sort.specs.Sorted.{Ascending};
 ghost use Rattle.lost_segments.specs.Coalesce.{coalesceCase, coalesceOutcome, coalesceList, join, maximalRuns};
 ghost use Rattle.lost_segments.specs.Inner.{Low};
 use crate::Store;
+use crate::inner::store_checks;
+use outcomes::Refusal;
+use outcomes::Verdict;
 use pair_sort::inner::sort_pairs;
 use ranges::inner::moves::tidy;
 
 pub enum CoalesceAnswer {
     Coalesced(usize),
-    BadStore,
+    Refused(Refusal),
 }
 
 // (s, e) joins the last of the first m ranges, or goes behind it.
@@ -75,12 +78,10 @@ impl Store {
         ensures { λ r. ⌜ coalesceCase r ≡ coalesceOutcome (now (list .entry)) self ⌝ }
         ensures { λ _. ⌜ now (list .exit) ≡ coalesceList (now (list .entry)) self ⌝ }
     {
-        let count = self.count;
-        let width = self.width;
-        let top = width.limit();
-        if ranges::bad_store(list, count, top) {
-            return CoalesceAnswer::BadStore;
+        let found = store_checks(self, list);
+        if let Verdict::Refused(r) = found {
+            return CoalesceAnswer::Refused(r);
         }
-        CoalesceAnswer::Coalesced(coalesce_counted(list, count))
+        CoalesceAnswer::Coalesced(coalesce_counted(list, self.count))
     }
 }
