@@ -1,11 +1,10 @@
 -- coalesce drops pairs with e at most s, then leaves the maximal runs of the union, ascending (document 01, "Ranges and the
 -- store"). Only 10 refuses.
-use Prim.Native.Nat.{ℕ, min, max}
-use mathlib.Core.Bool.{cond}
+use Prim.Native.Nat.{ℕ}
 use mathlib.Core.List.{List, [], _∷_}
 use lib.ListN.{length}
-use lib.Dec.{ltb}
-use Rattle.ranges.specs.Range.{Range, range}
+use Rattle.ranges.specs.Range.{Range}
+use Rattle.ranges.specs.Insert.{join}
 use Rattle.ranges.specs.Store.{counted, stored}
 use Rattle.outcomes.specs.Outcome.{Outcome, accepted, lent}
 use Rattle.outcomes.specs.Refusal.{refusing}
@@ -19,24 +18,6 @@ use Rattle.lost_segments.specs.declared.coalesce.CoalesceAnswer.the-vari
 abbrev pub coalesceCase : CoalesceAnswer → Outcome
 coalesceCase (answer.Coalesced count) = accepted (count ∷ [])
 coalesceCase (answer.Refused r) = refusing r
-
--- The one range of two that overlap or are adjacent.
-abbrev pub joined : Range → Range → Range
-joined q r = range (min (q .start) (r .start)) (max (q .end) (r .end))
-
--- r in front of the coalesced list qs, of which no range lies wholly before it: it joins those that it overlaps or is adjacent to.
-abbrev pub absorb : Range → List Range → List Range
-absorb r [] = r ∷ []
-absorb r (q ∷ qs) = cond (ltb (r .end) (q .start)) (r ∷ q ∷ qs) (absorb (joined q r) qs)
-
--- r put into the coalesced list qs.
-abbrev pub insert : Range → List Range → List Range
-insert r [] = r ∷ []
-insert r (q ∷ qs) = cond (ltb (q .end) (r .start)) (q ∷ insert r qs) (absorb r (q ∷ qs))
-
--- The same, but a pair with its end at most its start is dropped.
-abbrev pub join : Range → List Range → List Range
-join r qs = cond (ltb (r .start) (r .end)) (insert r qs) qs
 
 -- Each of the pairs rs in turn, put into the coalesced list qs.
 abbrev pub gather : List Range → List Range → List Range

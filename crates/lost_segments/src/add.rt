@@ -7,7 +7,7 @@ ghost use Rattle.lost_segments.specs.Add.{addCase, addChecks, addOutcome
 use crate::Store;
 use outcomes::Refusal;
 use outcomes::Verdict;
-use ranges::inner::moves::put_pair;
+use ranges::inner::pairs::put_pair;
 
 pub enum AddAnswer {
     Added(usize),

@@ -5,7 +5,7 @@ ghost use Prim.Native.Nat.{_*_, _<_, _≤_};
 ghost use lib.ListN.{length};
 ghost use Rattle.ranges.specs.Range.{Coalesced};
 ghost use Rattle.ranges.specs.Without.{without};
-ghost use Rattle.ranges.specs.Store.{counted, capacity, stored};
+ghost use Rattle.ranges.specs.Store.{counted, capacity, stored, mostNumbers};
 ghost use Rattle.outcomes.specs.Outcome.{accepted, lent};
 ghost use Rattle.outcomes.specs.Checks.{firstOf, verdictCase};
 ghost use Rattle.lost_segments.specs.Remove.{removeCase, removeChecks, removeFrom, removeOutcome, removeList};
@@ -16,6 +16,8 @@ use ranges::inner::checks::check;
 use ranges::inner::cut::Remains;
 use ranges::inner::cut::cut;
 use ranges::inner::cut::first_past;
+use ranges::inner::pairs::end_at;
+use ranges::inner::pairs::start_at;
 
 pub enum RemoveAnswer {
     Removed(usize),
@@ -53,7 +55,7 @@ fn remove_checks(st: Store, list: &[u64], a: u64, b: u64) -> Verdict
 
 // On a coalesced list: the first range that ends above a is the only one that (a, b) can lie inside.
 fn remove_coalesced(list: &mut [u64], count: usize, a: u64, b: u64) -> RemoveAnswer
-    requires { ⌜ (2 * count ≤ length (now list)) × ((length (now list) ≤ 8192) × (a < b)) ⌝ }
+    requires { ⌜ (2 * count ≤ length (now list)) × ((length (now list) ≤ mostNumbers) × (a < b)) ⌝ }
     requires { ⌜ Coalesced (counted (now list) count) ⌝ }
     ensures { λ r. ⌜ removeCase r ≡ removeFrom (capacity (now (list .entry))) (counted (now (list .entry)) count) a b ⌝ }
     ensures { λ r. ⌜ now (list .exit) ≡ lent (removeCase r) (stored (without a b (counted (now (list .entry)) count)) count (now (list .entry))) (now (list .entry)) ⌝ }
@@ -62,8 +64,8 @@ fn remove_coalesced(list: &mut [u64], count: usize, a: u64, b: u64) -> RemoveAns
     if i == count {
         return RemoveAnswer::NotStored;
     }
-    let s = list[2 * i];
-    let e = list[2 * i + 1];
+    let s = start_at(list, i);
+    let e = end_at(list, i);
     if b <= s {
         return RemoveAnswer::NotStored;
     }
@@ -73,7 +75,9 @@ fn remove_coalesced(list: &mut [u64], count: usize, a: u64, b: u64) -> RemoveAns
     if e < b {
         return RemoveAnswer::Refused(Refusal::InvalidSegmentBoundary(a, b));
     }
-    let left = cut(list, count, i, i + 1, a, b);
+    let room = list.len() / 2;
+    let done = cut(list, count, i, i + 1, a, b, room);
+    let left = done.remains;
     match left {
         Remains::Left(m) => RemoveAnswer::Removed(m),
         Remains::Full => RemoveAnswer::Refused(Refusal::StoreFull),

@@ -6,7 +6,7 @@ use Prim.Native.Nat.{ℕ, _+_, _*_, _≤_}
 use lib.ListN.{length}
 use borrow.Author.Needs.{needs}
 use Rattle.ranges.specs.Range.{range}
-use Rattle.ranges.specs.Store.{counted, stored}
+use Rattle.ranges.specs.Store.{counted, stored, mostNumbers}
 use Rattle.ranges.proofs.Good.{good}
 use Rattle.ranges.proofs.Stored.{stored-push}
 use Rattle.outcomes.specs.Outcome.{Outcome, accepted}
@@ -50,7 +50,7 @@ taken c =
     let b = fromP c in
     takes-of (xs b) (st b) (s b) (e b) (passed (checks b) _ (b .add-checks .ensures) (c .enum-told .given .1))
 
-room : (c : tie.After-enum-told) → (2 * st (fromP c) .count + 2 ≤ length (xs (fromP c))) × (length (xs (fromP c)) ≤ 8192)
+room : (c : tie.After-enum-told) → (2 * st (fromP c) .count + 2 ≤ length (xs (fromP c))) × (length (xs (fromP c)) ≤ mostNumbers)
 room c =
     let t = taken c in
     let g = good _ _ _ (t .good) in
