@@ -7,10 +7,10 @@ ghost use Rattle.lost_segments.specs.SegmentInStore.{inStoreCase};
 ghost use Rattle.lost_segments.specs.WriteSegmentsToBytes.{writeCase};
 ghost use Rattle.c_answers.specs.Answer.{answerOf};
 use crate::PusmarkeAnswer;
-use crate::inner::bare;
 use crate::inner::wide;
 use crate::inner::with_one;
 use crate::inner::with_two;
+use crate::refusal::of_refusal;
 use lost_segments::add::AddAnswer;
 use lost_segments::coalesce::CoalesceAnswer;
 use lost_segments::remove::RemoveAnswer;
@@ -22,11 +22,7 @@ pub fn of_add(a: AddAnswer) -> PusmarkeAnswer
 {
     match a {
         AddAnswer::Added(count) => with_one(0, wide(count)),
-        AddAnswer::BadStore => bare(10),
-        AddAnswer::EmptySegment => bare(2),
-        AddAnswer::StartLargerThanEnd(s, e) => with_two(3, s, e),
-        AddAnswer::LargeFileSegmentNotSupported => bare(4),
-        AddAnswer::StoreFull => bare(1),
+        AddAnswer::Refused(r) => of_refusal(r),
     }
 }
 
@@ -36,13 +32,7 @@ pub fn of_remove(a: RemoveAnswer) -> PusmarkeAnswer
     match a {
         RemoveAnswer::Removed(count) => with_two(0, 1, wide(count)),
         RemoveAnswer::NotStored => with_one(0, 0),
-        RemoveAnswer::BadStore => bare(10),
-        RemoveAnswer::LargeFileSegmentNotSupported => bare(4),
-        RemoveAnswer::EmptySegment => bare(2),
-        RemoveAnswer::StartLargerThanEnd(s, e) => with_two(3, s, e),
-        RemoveAnswer::NotCoalesced => bare(8),
-        RemoveAnswer::StoreFull => bare(1),
-        RemoveAnswer::InvalidSegmentBoundary(s, e) => with_two(5, s, e),
+        RemoveAnswer::Refused(r) => of_refusal(r),
     }
 }
 
@@ -51,7 +41,7 @@ pub fn of_coalesce(a: CoalesceAnswer) -> PusmarkeAnswer
 {
     match a {
         CoalesceAnswer::Coalesced(count) => with_one(0, wide(count)),
-        CoalesceAnswer::BadStore => bare(10),
+        CoalesceAnswer::Refused(r) => of_refusal(r),
     }
 }
 
@@ -61,7 +51,7 @@ pub fn of_in_store(a: InStoreAnswer) -> PusmarkeAnswer
     match a {
         InStoreAnswer::Yes => with_one(0, 1),
         InStoreAnswer::No => with_one(0, 0),
-        InStoreAnswer::BadStore => bare(10),
+        InStoreAnswer::Refused(r) => of_refusal(r),
     }
 }
 
@@ -70,8 +60,6 @@ pub fn of_write(a: WriteAnswer) -> PusmarkeAnswer
 {
     match a {
         WriteAnswer::Written(octets) => with_one(0, wide(octets)),
-        WriteAnswer::BadStore => bare(10),
-        WriteAnswer::BufferSizeMissmatch(needed, given) => with_two(6, wide(needed), wide(given)),
-        WriteAnswer::LargeSegmentForNormalFileSize => bare(7),
+        WriteAnswer::Refused(r) => of_refusal(r),
     }
 }

@@ -1,11 +1,11 @@
--- No two answers of a call have one outcome, so each call's statement allows one answer. Each enum is read back from its outcome.
-use mathlib.Core.Path.{_≡_, refl}
-use mathlib.Core.Bool.{cond}
+-- No two answers of a call have one outcome, so each call's statement allows one answer.
+use native.Mathlib.Omega.{arith}
+use mathlib.Core.Path.{_≡_, refl, sym, ap}
 use Prim.Native.Nat.{ℕ}
-use lib.Dec.{eqb}
 use lib.ListN.{getD}
 use Rattle.outcomes.specs.Outcome.{Outcome}
-use Rattle.outcomes.proofs.Apart.{apart}
+use Rattle.outcomes.specs.declared.Refusal.{Refusal}
+use Rattle.outcomes.proofs.Refusals.{value, one-refusal, no-refusal}
 use Rattle.lost_segments.specs.Add.{addCase}
 use Rattle.lost_segments.specs.Remove.{removeCase}
 use Rattle.lost_segments.specs.Coalesce.{coalesceCase}
@@ -22,85 +22,42 @@ use Rattle.lost_segments.specs.declared.segment_in_store.InStoreAnswer.t
 use Rattle.lost_segments.specs.declared.write_segments_to_bytes.WriteAnswer.{WriteAnswer}
 use Rattle.lost_segments.specs.declared.write_segments_to_bytes.WriteAnswer.the-variants as write
 
--- the i-th value
-abbrev value : ℕ → Outcome → ℕ
-value i o = getD (o .values) i 0
-
-abbrev addBack : Outcome → AddAnswer
-addBack o =
-    cond (eqb (o .number) 0) (add.Added (value 0 o))
-    (cond (eqb (o .number) 1) add.StoreFull
-    (cond (eqb (o .number) 2) add.EmptySegment
-    (cond (eqb (o .number) 3) (add.StartLargerThanEnd (value 0 o) (value 1 o))
-    (cond (eqb (o .number) 4) add.LargeFileSegmentNotSupported add.BadStore))))
-
-add-back : (r : AddAnswer) → addBack (addCase r) ≡ r
-add-back (add.Added m) = refl
-add-back add.BadStore = refl
-add-back add.EmptySegment = refl
-add-back (add.StartLargerThanEnd s e) = refl
-add-back add.LargeFileSegmentNotSupported = refl
-add-back add.StoreFull = refl
-
 pub one-add : (r s : AddAnswer) → addCase r ≡ addCase s → r ≡ s
-one-add = apart addCase addBack add-back
-
-abbrev removeBack : Outcome → RemoveAnswer
-removeBack o =
-    cond (eqb (o .number) 0) (cond (eqb (value 0 o) 0) remove.NotStored (remove.Removed (value 1 o)))
-    (cond (eqb (o .number) 1) remove.StoreFull
-    (cond (eqb (o .number) 2) remove.EmptySegment
-    (cond (eqb (o .number) 3) (remove.StartLargerThanEnd (value 0 o) (value 1 o))
-    (cond (eqb (o .number) 4) remove.LargeFileSegmentNotSupported
-    (cond (eqb (o .number) 5) (remove.InvalidSegmentBoundary (value 0 o) (value 1 o))
-    (cond (eqb (o .number) 8) remove.NotCoalesced remove.BadStore))))))
-
-remove-back : (r : RemoveAnswer) → removeBack (removeCase r) ≡ r
-remove-back (remove.Removed m) = refl
-remove-back remove.NotStored = refl
-remove-back remove.BadStore = refl
-remove-back remove.LargeFileSegmentNotSupported = refl
-remove-back remove.EmptySegment = refl
-remove-back (remove.StartLargerThanEnd s e) = refl
-remove-back remove.NotCoalesced = refl
-remove-back remove.StoreFull = refl
-remove-back (remove.InvalidSegmentBoundary s e) = refl
+one-add (add.Added m) (add.Added n) e = ap (λ (k : ℕ). add.Added k) (ap (value 0) e)
+one-add (add.Added m) (add.Refused s) e = absurd (no-refusal s (sym e))
+one-add (add.Refused r) (add.Added n) e = absurd (no-refusal r e)
+one-add (add.Refused r) (add.Refused s) e = ap (λ (q : Refusal). add.Refused q) (one-refusal r s e)
 
 pub one-remove : (r s : RemoveAnswer) → removeCase r ≡ removeCase s → r ≡ s
-one-remove = apart removeCase removeBack remove-back
-
-abbrev coalesceBack : Outcome → CoalesceAnswer
-coalesceBack o = cond (eqb (o .number) 0) (coalesce.Coalesced (value 0 o)) coalesce.BadStore
-
-coalesce-back : (r : CoalesceAnswer) → coalesceBack (coalesceCase r) ≡ r
-coalesce-back (coalesce.Coalesced m) = refl
-coalesce-back coalesce.BadStore = refl
+one-remove (remove.Removed m) (remove.Removed n) e = ap (λ (k : ℕ). remove.Removed k) (ap (value 1) e)
+one-remove (remove.Removed m) remove.NotStored e = let k : _≡_ {A = ℕ} 1 0 = ap (value 0) e in absurd (omega arith)
+one-remove (remove.Removed m) (remove.Refused s) e = absurd (no-refusal s (sym e))
+one-remove remove.NotStored (remove.Removed n) e = let k : _≡_ {A = ℕ} 0 1 = ap (value 0) e in absurd (omega arith)
+one-remove remove.NotStored remove.NotStored e = refl
+one-remove remove.NotStored (remove.Refused s) e = absurd (no-refusal s (sym e))
+one-remove (remove.Refused r) (remove.Removed n) e = absurd (no-refusal r e)
+one-remove (remove.Refused r) remove.NotStored e = absurd (no-refusal r e)
+one-remove (remove.Refused r) (remove.Refused s) e = ap (λ (q : Refusal). remove.Refused q) (one-refusal r s e)
 
 pub one-coalesce : (r s : CoalesceAnswer) → coalesceCase r ≡ coalesceCase s → r ≡ s
-one-coalesce = apart coalesceCase coalesceBack coalesce-back
-
-abbrev inStoreBack : Outcome → InStoreAnswer
-inStoreBack o = cond (eqb (o .number) 0) (cond (eqb (value 0 o) 0) inStore.No inStore.Yes) inStore.BadStore
-
-in-store-back : (r : InStoreAnswer) → inStoreBack (inStoreCase r) ≡ r
-in-store-back inStore.Yes = refl
-in-store-back inStore.No = refl
-in-store-back inStore.BadStore = refl
+one-coalesce (coalesce.Coalesced m) (coalesce.Coalesced n) e = ap (λ (k : ℕ). coalesce.Coalesced k) (ap (value 0) e)
+one-coalesce (coalesce.Coalesced m) (coalesce.Refused s) e = absurd (no-refusal s (sym e))
+one-coalesce (coalesce.Refused r) (coalesce.Coalesced n) e = absurd (no-refusal r e)
+one-coalesce (coalesce.Refused r) (coalesce.Refused s) e = ap (λ (q : Refusal). coalesce.Refused q) (one-refusal r s e)
 
 pub one-in-store : (r s : InStoreAnswer) → inStoreCase r ≡ inStoreCase s → r ≡ s
-one-in-store = apart inStoreCase inStoreBack in-store-back
-
-abbrev writeBack : Outcome → WriteAnswer
-writeBack o =
-    cond (eqb (o .number) 0) (write.Written (value 0 o))
-    (cond (eqb (o .number) 6) (write.BufferSizeMissmatch (value 0 o) (value 1 o))
-    (cond (eqb (o .number) 7) write.LargeSegmentForNormalFileSize write.BadStore))
-
-write-back : (r : WriteAnswer) → writeBack (writeCase r) ≡ r
-write-back (write.Written m) = refl
-write-back write.BadStore = refl
-write-back (write.BufferSizeMissmatch n g) = refl
-write-back write.LargeSegmentForNormalFileSize = refl
+one-in-store inStore.Yes inStore.Yes e = refl
+one-in-store inStore.Yes inStore.No e = let k : _≡_ {A = ℕ} 1 0 = ap (value 0) e in absurd (omega arith)
+one-in-store inStore.Yes (inStore.Refused s) e = absurd (no-refusal s (sym e))
+one-in-store inStore.No inStore.Yes e = let k : _≡_ {A = ℕ} 0 1 = ap (value 0) e in absurd (omega arith)
+one-in-store inStore.No inStore.No e = refl
+one-in-store inStore.No (inStore.Refused s) e = absurd (no-refusal s (sym e))
+one-in-store (inStore.Refused r) inStore.Yes e = absurd (no-refusal r e)
+one-in-store (inStore.Refused r) inStore.No e = absurd (no-refusal r e)
+one-in-store (inStore.Refused r) (inStore.Refused s) e = ap (λ (q : Refusal). inStore.Refused q) (one-refusal r s e)
 
 pub one-write : (r s : WriteAnswer) → writeCase r ≡ writeCase s → r ≡ s
-one-write = apart writeCase writeBack write-back
+one-write (write.Written m) (write.Written n) e = ap (λ (k : ℕ). write.Written k) (ap (value 0) e)
+one-write (write.Written m) (write.Refused s) e = absurd (no-refusal s (sym e))
+one-write (write.Refused r) (write.Written n) e = absurd (no-refusal r e)
+one-write (write.Refused r) (write.Refused s) e = ap (λ (q : Refusal). write.Refused q) (one-refusal r s e)

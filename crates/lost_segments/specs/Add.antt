@@ -1,35 +1,37 @@
 -- add appends, without looking for overlap (document 01, "Ranges and the store").
 use Prim.Native.Nat.{ℕ, _+_, _≤_, _<_}
 use mathlib.Core.Path.{_≡_}
-use mathlib.Core.Bool.{false, cond}
+use mathlib.Core.Bool.{false}
 use mathlib.Core.List.{List, [], _∷_, _++_}
 use lib.Dec.{ltb, eqb}
 use Rattle.ranges.specs.Range.{range}
 use Rattle.ranges.specs.Store.{counted, capacity, limitOf, isBadStore, eitherAbove, stored}
 use Rattle.outcomes.specs.Outcome.{Outcome, accepted, lent}
-use Rattle.outcomes.specs.Named.{storeFull, emptySegment, startLargerThanEnd, largeFileSegmentNotSupported, badStore}
+use Rattle.outcomes.specs.Refusal.{refusing}
+use Rattle.outcomes.specs.Checks.{Check, firstOf}
+use Rattle.outcomes.specs.declared.Refusal.the-variants as refusal
 use Rattle.lost_segments.specs.declared.Store.{Store}
+use Rattle.lost_segments.specs.Checks.{isBad}
 use Rattle.lost_segments.specs.declared.add.AddAnswer.{AddAnswer}
 use Rattle.lost_segments.specs.declared.add.AddAnswer.the-variants as answer
 
 -- The number and the values of each case of the answer; an accepted add hands back the new count.
 abbrev pub addCase : AddAnswer → Outcome
 addCase (answer.Added count) = accepted (count ∷ [])
-addCase answer.BadStore = badStore
-addCase answer.EmptySegment = emptySegment
-addCase (answer.StartLargerThanEnd s e) = startLargerThanEnd s e
-addCase answer.LargeFileSegmentNotSupported = largeFileSegmentNotSupported
-addCase answer.StoreFull = storeFull
+addCase (answer.Refused r) = refusing r
 
 -- Checks: 10, 2, 3, 4 (narrow), 1. Full means count equals capacity.
+abbrev pub addChecks : List ℕ → Store → ℕ → ℕ → List Check
+addChecks xs st s e =
+    (isBad xs st, refusal.BadStore)
+    ∷ (eqb s e, refusal.EmptySegment)
+    ∷ (ltb e s, refusal.StartLargerThanEnd s e)
+    ∷ (eitherAbove (limitOf (st .width)) s e, refusal.LargeFileSegmentNotSupported)
+    ∷ (eqb (st .count) (capacity xs), refusal.StoreFull)
+    ∷ []
+
 abbrev pub addOutcome : List ℕ → Store → ℕ → ℕ → Outcome
-addOutcome xs st s e =
-    cond (isBadStore xs (st .count) (limitOf (st .width))) badStore
-    (cond (eqb s e) emptySegment
-    (cond (ltb e s) (startLargerThanEnd s e)
-    (cond (eitherAbove (limitOf (st .width)) s e) largeFileSegmentNotSupported
-    (cond (eqb (st .count) (capacity xs)) storeFull
-    (accepted ((st .count + 1) ∷ []))))))
+addOutcome xs st s e = firstOf (addChecks xs st s e) (accepted ((st .count + 1) ∷ []))
 
 -- The list afterwards: the range stands behind the counted ones.
 abbrev pub addList : List ℕ → Store → ℕ → ℕ → List ℕ

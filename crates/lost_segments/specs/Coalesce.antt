@@ -1,40 +1,23 @@
 -- coalesce drops pairs with e at most s, then leaves the maximal runs of the union, ascending (document 01, "Ranges and the
 -- store"). Only 10 refuses.
-use Prim.Native.Nat.{ℕ, min, max}
-use mathlib.Core.Bool.{cond}
+use Prim.Native.Nat.{ℕ}
 use mathlib.Core.List.{List, [], _∷_}
 use lib.ListN.{length}
-use lib.Dec.{ltb}
-use Rattle.ranges.specs.Range.{Range, range}
-use Rattle.ranges.specs.Store.{counted, limitOf, isBadStore, stored}
+use Rattle.ranges.specs.Range.{Range}
+use Rattle.ranges.specs.Insert.{join}
+use Rattle.ranges.specs.Store.{counted, stored}
 use Rattle.outcomes.specs.Outcome.{Outcome, accepted, lent}
-use Rattle.outcomes.specs.Named.{badStore}
+use Rattle.outcomes.specs.Refusal.{refusing}
+use Rattle.outcomes.specs.Checks.{firstOf}
 use Rattle.lost_segments.specs.declared.Store.{Store}
+use Rattle.lost_segments.specs.Checks.{storeChecks}
 use Rattle.lost_segments.specs.declared.coalesce.CoalesceAnswer.{CoalesceAnswer}
 use Rattle.lost_segments.specs.declared.coalesce.CoalesceAnswer.the-variants as answer
 
 -- The number and the values of each case of the answer.
 abbrev pub coalesceCase : CoalesceAnswer → Outcome
 coalesceCase (answer.Coalesced count) = accepted (count ∷ [])
-coalesceCase answer.BadStore = badStore
-
--- The one range of two that overlap or are adjacent.
-abbrev pub joined : Range → Range → Range
-joined q r = range (min (q .start) (r .start)) (max (q .end) (r .end))
-
--- r in front of the coalesced list qs, of which no range lies wholly before it: it joins those that it overlaps or is adjacent to.
-abbrev pub absorb : Range → List Range → List Range
-absorb r [] = r ∷ []
-absorb r (q ∷ qs) = cond (ltb (r .end) (q .start)) (r ∷ q ∷ qs) (absorb (joined q r) qs)
-
--- r put into the coalesced list qs.
-abbrev pub insert : Range → List Range → List Range
-insert r [] = r ∷ []
-insert r (q ∷ qs) = cond (ltb (q .end) (r .start)) (q ∷ insert r qs) (absorb r (q ∷ qs))
-
--- The same, but a pair with its end at most its start is dropped.
-abbrev pub join : Range → List Range → List Range
-join r qs = cond (ltb (r .start) (r .end)) (insert r qs) qs
+coalesceCase (answer.Refused r) = refusing r
 
 -- Each of the pairs rs in turn, put into the coalesced list qs.
 abbrev pub gather : List Range → List Range → List Range
@@ -45,9 +28,9 @@ gather qs (r ∷ rs) = gather (join r qs) rs
 unfoldable pub maximalRuns : List Range → List Range
 maximalRuns rs = gather [] rs
 
+-- Checks: 10. An accepted call hands back the number of the runs.
 abbrev pub coalesceOutcome : List ℕ → Store → Outcome
-coalesceOutcome xs st =
-    cond (isBadStore xs (st .count) (limitOf (st .width))) badStore (accepted (length (maximalRuns (counted xs (st .count))) ∷ []))
+coalesceOutcome xs st = firstOf (storeChecks xs st) (accepted (length (maximalRuns (counted xs (st .count))) ∷ []))
 
 abbrev pub coalesceList : List ℕ → Store → List ℕ
 coalesceList xs st = lent (coalesceOutcome xs st) (stored (maximalRuns (counted xs (st .count))) (st .count) xs) xs

@@ -1,3 +1,4 @@
+pub mod Checks
 pub mod Add
 pub mod Remove
 pub mod Coalesce

@@ -1,7 +1,7 @@
 -- remove takes the offsets of (a, b) out of a coalesced list (document 01, "Ranges and the store").
 use Prim.Native.Nat.{ℕ, _≤_, _<_}
 use mathlib.Core.Path.{_≡_}
-use mathlib.Core.Bool.{false, cond}
+use mathlib.Core.Bool.{false, not, cond}
 use mathlib.Core.List.{List, [], _∷_, List·Memᴰ}
 use lib.ListN.{length}
 use lib.Dec.{ltb, eqb}
@@ -9,8 +9,12 @@ use Rattle.ranges.specs.Range.{Range, Coalesced, some, inside, shares, isCoales
 use Rattle.ranges.specs.Without.{without}
 use Rattle.ranges.specs.Store.{counted, capacity, limitOf, isBadStore, eitherAbove, stored}
 use Rattle.outcomes.specs.Outcome.{Outcome, accepted, lent}
-use Rattle.outcomes.specs.Named.{storeFull, emptySegment, startLargerThanEnd, largeFileSegmentNotSupported, invalidSegmentBoundary, notCoalesced, badStore}
+use Rattle.outcomes.specs.Refusal.{refusing}
+use Rattle.outcomes.specs.Named.{storeFull, invalidSegmentBoundary}
+use Rattle.outcomes.specs.Checks.{Check, firstOf}
+use Rattle.outcomes.specs.declared.Refusal.the-variants as refusal
 use Rattle.lost_segments.specs.declared.Store.{Store}
+use Rattle.lost_segments.specs.Checks.{isBad}
 use Rattle.lost_segments.specs.declared.remove.RemoveAnswer.{RemoveAnswer}
 use Rattle.lost_segments.specs.declared.remove.RemoveAnswer.the-variants as answer
 
@@ -18,13 +22,7 @@ use Rattle.lost_segments.specs.declared.remove.RemoveAnswer.the-variants
 abbrev pub removeCase : RemoveAnswer → Outcome
 removeCase (answer.Removed count) = accepted (1 ∷ count ∷ [])
 removeCase answer.NotStored = accepted (0 ∷ [])
-removeCase answer.BadStore = badStore
-removeCase answer.LargeFileSegmentNotSupported = largeFileSegmentNotSupported
-removeCase answer.EmptySegment = emptySegment
-removeCase (answer.StartLargerThanEnd s e) = startLargerThanEnd s e
-removeCase answer.NotCoalesced = notCoalesced
-removeCase answer.StoreFull = storeFull
-removeCase (answer.InvalidSegmentBoundary s e) = invalidSegmentBoundary s e
+removeCase (answer.Refused r) = refusing r
 
 -- On the coalesced list rs, with room for cap. Inside one range, the answer is true and exactly those offsets leave; 1 if more
 -- ranges are left than there is room for, which only a split can bring about. Sharing an offset with some range but inside none
@@ -35,14 +33,19 @@ removeFrom cap rs a b =
     (cond (ltb cap (length (without a b rs))) storeFull (accepted (1 ∷ length (without a b rs) ∷ [])))
     (cond (some (shares a b) rs) (invalidSegmentBoundary a b) (accepted (0 ∷ [])))
 
--- Checks: 10, then narrow 4 first, 2, 3, 8; then the coalesced list.
+-- Checks: 10, then narrow 4 first, 2, 3, 8.
+abbrev pub removeChecks : List ℕ → Store → ℕ → ℕ → List Check
+removeChecks xs st a b =
+    (isBad xs st, refusal.BadStore)
+    ∷ (eitherAbove (limitOf (st .width)) a b, refusal.LargeFileSegmentNotSupported)
+    ∷ (eqb a b, refusal.EmptySegment)
+    ∷ (ltb b a, refusal.StartLargerThanEnd a b)
+    ∷ (not (isCoalesced (counted xs (st .count))), refusal.NotCoalesced)
+    ∷ []
+
+-- Behind them, the coalesced list decides.
 abbrev pub removeOutcome : List ℕ → Store → ℕ → ℕ → Outcome
-removeOutcome xs st a b =
-    cond (isBadStore xs (st .count) (limitOf (st .width))) badStore
-    (cond (eitherAbove (limitOf (st .width)) a b) largeFileSegmentNotSupported
-    (cond (eqb a b) emptySegment
-    (cond (ltb b a) (startLargerThanEnd a b)
-    (cond (isCoalesced (counted xs (st .count))) (removeFrom (capacity xs) (counted xs (st .count)) a b) notCoalesced))))
+removeOutcome xs st a b = firstOf (removeChecks xs st a b) (removeFrom (capacity xs) (counted xs (st .count)) a b)
 
 -- The list afterwards: an accepted call leaves the list without the offsets of (a, b), whether it had any of them or none.
 abbrev pub removeList : List ℕ → Store → ℕ → ℕ → List ℕ

@@ -4,10 +4,12 @@ use Prim.Native.Nat.{ℕ, _≤_}
 use mathlib.Core.Bool.{cond}
 use mathlib.Core.List.{List, [], _∷_, List·Memᴰ}
 use Rattle.ranges.specs.Range.{Range, some, inside}
-use Rattle.ranges.specs.Store.{counted, limitOf, isBadStore}
+use Rattle.ranges.specs.Store.{counted}
 use Rattle.outcomes.specs.Outcome.{Outcome, accepted}
-use Rattle.outcomes.specs.Named.{badStore}
+use Rattle.outcomes.specs.Refusal.{refusing}
+use Rattle.outcomes.specs.Checks.{firstOf}
 use Rattle.lost_segments.specs.declared.Store.{Store}
+use Rattle.lost_segments.specs.Checks.{storeChecks}
 use Rattle.lost_segments.specs.declared.segment_in_store.InStoreAnswer.{InStoreAnswer}
 use Rattle.lost_segments.specs.declared.segment_in_store.InStoreAnswer.the-variants as answer
 
@@ -15,11 +17,12 @@ use Rattle.lost_segments.specs.declared.segment_in_store.InStoreAnswer.t
 abbrev pub inStoreCase : InStoreAnswer → Outcome
 inStoreCase answer.Yes = accepted (1 ∷ [])
 inStoreCase answer.No = accepted (0 ∷ [])
-inStoreCase answer.BadStore = badStore
+inStoreCase (answer.Refused r) = refusing r
 
+-- Checks: 10.
 abbrev pub inStoreOutcome : List ℕ → Store → ℕ → ℕ → Outcome
 inStoreOutcome xs st a b =
-    cond (isBadStore xs (st .count) (limitOf (st .width))) badStore
+    firstOf (storeChecks xs st)
     (cond (some (inside a b) (counted xs (st .count))) (accepted (1 ∷ [])) (accepted (0 ∷ [])))
 
 -- Some range of the list has a at least its start and b at most its end.

@@ -1,16 +1,45 @@
 // add: a range behind the counted ones.
 ghost use mathlib.Core.Path.{_≡_};
-ghost use Rattle.lost_segments.specs.Add.{addCase, addOutcome, addList};
+ghost use mathlib.Core.List.{[]};
+ghost use Rattle.outcomes.specs.Outcome.{accepted};
+ghost use Rattle.outcomes.specs.Checks.{firstOf, verdictCase};
+ghost use Rattle.lost_segments.specs.Add.{addCase, addChecks, addOutcome, addList};
 use crate::Store;
-use ranges::inner::moves::put_pair;
+use outcomes::Refusal;
+use outcomes::Verdict;
+use ranges::inner::pairs::put_pair;
 
 pub enum AddAnswer {
     Added(usize),
-    BadStore,
-    EmptySegment,
-    StartLargerThanEnd(u64, u64),
-    LargeFileSegmentNotSupported,
-    StoreFull,
+    Refused(Refusal),
+}
+
+// The checks of add, in order.
+fn add_checks(st: Store, list: &[u64], start: u64, end: u64) -> Verdict
+    ensures { λ r. ⌜ verdictCase r ≡ firstOf (addChecks (now (list .entry)) st start end) (accepted []) ⌝ }
+{
+    let count = st.count;
+    let width = st.width;
+    let top = width.limit();
+    if ranges::bad_store(list, count, top) {
+        return Verdict::Refused(Refusal::BadStore);
+    }
+    if start == end {
+        return Verdict::Refused(Refusal::EmptySegment);
+    }
+    if end < start {
+        return Verdict::Refused(Refusal::StartLargerThanEnd(start, end));
+    }
+    if top < start {
+        return Verdict::Refused(Refusal::LargeFileSegmentNotSupported);
+    }
+    if top < end {
+        return Verdict::Refused(Refusal::LargeFileSegmentNotSupported);
+    }
+    if count == list.len() / 2 {
+        return Verdict::Refused(Refusal::StoreFull);
+    }
+    Verdict::Passed
 }
 
 impl Store {
@@ -18,27 +47,11 @@ impl Store {
         ensures { λ r. ⌜ addCase r ≡ addOutcome (now (list .entry)) self start end ⌝ }
         ensures { λ _. ⌜ now (list .exit) ≡ addList (now (list .entry)) self start end ⌝ }
     {
+        let found = add_checks(self, list, start, end);
+        if let Verdict::Refused(r) = found {
+            return AddAnswer::Refused(r);
+        }
         let count = self.count;
-        let width = self.width;
-        let top = width.limit();
-        if ranges::bad_store(list, count, top) {
-            return AddAnswer::BadStore;
-        }
-        if start == end {
-            return AddAnswer::EmptySegment;
-        }
-        if end < start {
-            return AddAnswer::StartLargerThanEnd(start, end);
-        }
-        if top < start {
-            return AddAnswer::LargeFileSegmentNotSupported;
-        }
-        if top < end {
-            return AddAnswer::LargeFileSegmentNotSupported;
-        }
-        if count == list.len() / 2 {
-            return AddAnswer::StoreFull;
-        }
         put_pair(list, count, start, end);
         AddAnswer::Added(count + 1)
     }

@@ -3,17 +3,25 @@ ghost use mathlib.Core.Path.{_≡_};
 ghost use Prim.Native.Nat.{_+_, _*_, _≤_};
 ghost use lib.ListN.{length};
 ghost use Rattle.ranges.specs.Range.{range, Coalesced};
+ghost use Rattle.ranges.specs.Insert.{join};
 ghost use Rattle.ranges.specs.Store.{counted, stored};
 ghost use Rattle.pair_sort.specs.Sorted.{Ascending};
-ghost use Rattle.lost_segments.specs.Coalesce.{coalesceCase, coalesceOutcome, coalesceList, join, maximalRuns};
+ghost use Rattle.lost_segments.specs.Coalesce.{coalesceCase, coalesceOutcome, coalesceList, maximalRuns};
 ghost use Rattle.lost_segments.specs.Inner.{Low};
 use crate::Store;
+use crate::inner::store_checks;
+use outcomes::Refusal;
+use outcomes::Verdict;
 use pair_sort::inner::sort_pairs;
 use ranges::inner::moves::tidy;
+use ranges::inner::pairs::end_at;
+use ranges::inner::pairs::put_end;
+use ranges::inner::pairs::put_pair;
+use ranges::inner::pairs::start_at;
 
 pub enum CoalesceAnswer {
     Coalesced(usize),
-    BadStore,
+    Refused(Refusal),
 }
 
 // (s, e) joins the last of the first m ranges, or goes behind it.
@@ -29,16 +37,15 @@ fn put_last(list: &mut [u64], m: usize, s: u64, e: u64) -> usize
     }
     if 0 < m {
         let l = m - 1;
-        let h = list[2 * l + 1];
+        let h = end_at(list, l);
         if s <= h {
             if h < e {
-                list[2 * l + 1] = e;
+                put_end(list, l, e);
             }
             return m;
         }
     }
-    list[2 * m] = s;
-    list[2 * m + 1] = e;
+    put_pair(list, m, s, e);
     m + 1
 }
 
@@ -52,8 +59,8 @@ fn merge_ascending(list: &mut [u64], n: usize) -> usize
     let mut m = 0;
     let mut k = 0;
     while k < n {
-        let s = list[2 * k];
-        let e = list[2 * k + 1];
+        let s = start_at(list, k);
+        let e = end_at(list, k);
         m = put_last(list, m, s, e);
         k += 1;
     }
@@ -75,12 +82,10 @@ impl Store {
         ensures { λ r. ⌜ coalesceCase r ≡ coalesceOutcome (now (list .entry)) self ⌝ }
         ensures { λ _. ⌜ now (list .exit) ≡ coalesceList (now (list .entry)) self ⌝ }
     {
-        let count = self.count;
-        let width = self.width;
-        let top = width.limit();
-        if ranges::bad_store(list, count, top) {
-            return CoalesceAnswer::BadStore;
+        let found = store_checks(self, list);
+        if let Verdict::Refused(r) = found {
+            return CoalesceAnswer::Refused(r);
         }
-        CoalesceAnswer::Coalesced(coalesce_counted(list, count))
+        CoalesceAnswer::Coalesced(coalesce_counted(list, self.count))
     }
 }

@@ -1,33 +1,61 @@
 // remove: the offsets of a range leave a coalesced list.
 ghost use mathlib.Core.Path.{_≡_};
+ghost use mathlib.Core.List.{[]};
 ghost use Prim.Native.Nat.{_*_, _<_, _≤_};
 ghost use lib.ListN.{length};
 ghost use Rattle.ranges.specs.Range.{Coalesced};
 ghost use Rattle.ranges.specs.Without.{without};
-ghost use Rattle.ranges.specs.Store.{counted, capacity, stored};
-ghost use Rattle.outcomes.specs.Outcome.{lent};
-ghost use Rattle.lost_segments.specs.Remove.{removeCase, removeFrom, removeOutcome, removeList};
+ghost use Rattle.ranges.specs.Store.{counted, capacity, stored, mostNumbers};
+ghost use Rattle.outcomes.specs.Outcome.{accepted, lent};
+ghost use Rattle.outcomes.specs.Checks.{firstOf, verdictCase};
+ghost use Rattle.lost_segments.specs.Remove.{removeCase, removeChecks, removeFrom, removeOutcome, removeList};
 use crate::Store;
+use outcomes::Refusal;
+use outcomes::Verdict;
 use ranges::inner::checks::check;
 use ranges::inner::cut::Remains;
 use ranges::inner::cut::cut;
 use ranges::inner::cut::first_past;
+use ranges::inner::pairs::end_at;
+use ranges::inner::pairs::start_at;
 
 pub enum RemoveAnswer {
     Removed(usize),
     NotStored,
-    BadStore,
-    LargeFileSegmentNotSupported,
-    EmptySegment,
-    StartLargerThanEnd(u64, u64),
-    NotCoalesced,
-    StoreFull,
-    InvalidSegmentBoundary(u64, u64),
+    Refused(Refusal),
+}
+
+// The checks of remove, in order.
+fn remove_checks(st: Store, list: &[u64], a: u64, b: u64) -> Verdict
+    ensures { λ r. ⌜ verdictCase r ≡ firstOf (removeChecks (now (list .entry)) st a b) (accepted []) ⌝ }
+{
+    let width = st.width;
+    let top = width.limit();
+    let found = check(list, st.count, top);
+    if found.bad {
+        return Verdict::Refused(Refusal::BadStore);
+    }
+    if top < a {
+        return Verdict::Refused(Refusal::LargeFileSegmentNotSupported);
+    }
+    if top < b {
+        return Verdict::Refused(Refusal::LargeFileSegmentNotSupported);
+    }
+    if a == b {
+        return Verdict::Refused(Refusal::EmptySegment);
+    }
+    if b < a {
+        return Verdict::Refused(Refusal::StartLargerThanEnd(a, b));
+    }
+    if !found.coalesced {
+        return Verdict::Refused(Refusal::NotCoalesced);
+    }
+    Verdict::Passed
 }
 
 // On a coalesced list: the first range that ends above a is the only one that (a, b) can lie inside.
 fn remove_coalesced(list: &mut [u64], count: usize, a: u64, b: u64) -> RemoveAnswer
-    requires { ⌜ (2 * count ≤ length (now list)) × ((length (now list) ≤ 8192) × (a < b)) ⌝ }
+    requires { ⌜ (2 * count ≤ length (now list)) × ((length (now list) ≤ mostNumbers) × (a < b)) ⌝ }
     requires { ⌜ Coalesced (counted (now list) count) ⌝ }
     ensures { λ r. ⌜ removeCase r ≡ removeFrom (capacity (now (list .entry))) (counted (now (list .entry)) count) a b ⌝ }
     ensures { λ r. ⌜ now (list .exit) ≡ lent (removeCase r) (stored (without a b (counted (now (list .entry)) count)) count (now (list .entry))) (now (list .entry)) ⌝ }
@@ -36,21 +64,23 @@ fn remove_coalesced(list: &mut [u64], count: usize, a: u64, b: u64) -> RemoveAns
     if i == count {
         return RemoveAnswer::NotStored;
     }
-    let s = list[2 * i];
-    let e = list[2 * i + 1];
+    let s = start_at(list, i);
+    let e = end_at(list, i);
     if b <= s {
         return RemoveAnswer::NotStored;
     }
     if a < s {
-        return RemoveAnswer::InvalidSegmentBoundary(a, b);
+        return RemoveAnswer::Refused(Refusal::InvalidSegmentBoundary(a, b));
     }
     if e < b {
-        return RemoveAnswer::InvalidSegmentBoundary(a, b);
+        return RemoveAnswer::Refused(Refusal::InvalidSegmentBoundary(a, b));
     }
-    let left = cut(list, count, i, i + 1, a, b);
+    let room = list.len() / 2;
+    let done = cut(list, count, i, i + 1, a, b, room);
+    let left = done.remains;
     match left {
         Remains::Left(m) => RemoveAnswer::Removed(m),
-        Remains::Full => RemoveAnswer::StoreFull,
+        Remains::Full => RemoveAnswer::Refused(Refusal::StoreFull),
     }
 }
 
@@ -59,28 +89,10 @@ impl Store {
         ensures { λ r. ⌜ removeCase r ≡ removeOutcome (now (list .entry)) self a b ⌝ }
         ensures { λ _. ⌜ now (list .exit) ≡ removeList (now (list .entry)) self a b ⌝ }
     {
-        let count = self.count;
-        let width = self.width;
-        let top = width.limit();
-        let found = check(list, count, top);
-        if found.bad {
-            return RemoveAnswer::BadStore;
+        let found = remove_checks(self, list, a, b);
+        if let Verdict::Refused(r) = found {
+            return RemoveAnswer::Refused(r);
         }
-        if top < a {
-            return RemoveAnswer::LargeFileSegmentNotSupported;
-        }
-        if top < b {
-            return RemoveAnswer::LargeFileSegmentNotSupported;
-        }
-        if a == b {
-            return RemoveAnswer::EmptySegment;
-        }
-        if b < a {
-            return RemoveAnswer::StartLargerThanEnd(a, b);
-        }
-        if found.coalesced {
-            return remove_coalesced(list, count, a, b);
-        }
-        RemoveAnswer::NotCoalesced
+        remove_coalesced(list, self.count, a, b)
     }
 }

@@ -1,20 +1,23 @@
 // write_segments_to_bytes: the counted pairs as the segment requests of a NAK PDU.
 ghost use mathlib.Core.Path.{_≡_};
 ghost use mathlib.Core.Bool.{false};
+ghost use mathlib.Core.List.{[]};
 ghost use Prim.Native.Nat.{_≤_};
 ghost use lib.ListN.{length, take};
 ghost use Rattle.ranges.specs.Store.{anyAbove};
-ghost use Rattle.lost_segments.specs.WriteSegmentsToBytes.{writeCase, writeOutcome, writeBuffer};
+ghost use Rattle.outcomes.specs.Outcome.{accepted};
+ghost use Rattle.outcomes.specs.Checks.{firstOf, verdictCase};
+ghost use Rattle.lost_segments.specs.WriteSegmentsToBytes.{writeCase, writeChecks, writeOutcome, writeBuffer};
 use crate::Store;
 use octets::LargeFileFlag;
 use octets::inner::put_all;
+use outcomes::Refusal;
+use outcomes::Verdict;
 use ranges::inner::checks::any_above;
 
 pub enum WriteAnswer {
     Written(usize),
-    BadStore,
-    BufferSizeMissmatch(usize, usize),
-    LargeSegmentForNormalFileSize,
+    Refused(Refusal),
 }
 
 // 7: whether one of the first `end` numbers, none of them above top, is above the flag's largest.
@@ -28,6 +31,28 @@ fn any_too_large(list: &[u64], end: usize, top: u64, largest: u64) -> bool
     any_above(list, end, largest)
 }
 
+// The checks of write_segments_to_bytes, in order, for a buffer of `given` octets.
+fn write_checks(st: Store, list: &[u64], flag: LargeFileFlag, given: usize) -> Verdict
+    ensures { λ r. ⌜ verdictCase r ≡ firstOf (writeChecks (now (list .entry)) st flag given) (accepted []) ⌝ }
+{
+    let count = st.count;
+    let width = st.width;
+    let top = width.limit();
+    if ranges::bad_store(list, count, top) {
+        return Verdict::Refused(Refusal::BadStore);
+    }
+    let f = flag.field_length();
+    let needed = count * (2 * f);
+    if given != needed {
+        return Verdict::Refused(Refusal::BufferSizeMissmatch(needed, given));
+    }
+    let largest = flag.largest();
+    if any_too_large(list, 2 * count, top, largest) {
+        return Verdict::Refused(Refusal::LargeSegmentForNormalFileSize);
+    }
+    Verdict::Passed
+}
+
 impl Store {
     pub fn write_segments_to_bytes(
         self,
@@ -38,23 +63,13 @@ impl Store {
         ensures { λ r. ⌜ writeCase r ≡ writeOutcome (now (list .entry)) self flag (now (buf .entry)) ⌝ }
         ensures { λ _. ⌜ now (buf .exit) ≡ writeBuffer (now (list .entry)) self flag (now (buf .entry)) ⌝ }
     {
-        let count = self.count;
-        let width = self.width;
-        let top = width.limit();
-        if ranges::bad_store(list, count, top) {
-            return WriteAnswer::BadStore;
+        let given = buf.len();
+        let found = write_checks(self, list, flag, given);
+        if let Verdict::Refused(r) = found {
+            return WriteAnswer::Refused(r);
         }
         let f = flag.field_length();
-        let needed = count * (2 * f);
-        let given = buf.len();
-        if given != needed {
-            return WriteAnswer::BufferSizeMissmatch(needed, given);
-        }
-        let largest = flag.largest();
-        if any_too_large(list, 2 * count, top, largest) {
-            return WriteAnswer::LargeSegmentForNormalFileSize;
-        }
-        put_all(buf, 0, f, list, 0, 2 * count);
-        WriteAnswer::Written(needed)
+        put_all(buf, 0, f, list, 0, 2 * self.count);
+        WriteAnswer::Written(given)
     }
 }

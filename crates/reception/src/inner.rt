@@ -17,7 +17,7 @@ use ranges::inner::cut::Remains;
 use ranges::inner::cut::cut;
 use ranges::inner::cut::first_from;
 use ranges::inner::cut::first_past;
-use ranges::inner::moves::put_pair;
+use ranges::inner::pairs::put_pair;
 
 // Whether the counted pairs are the list of a waiting record.
 fn is_waiting(list: &[u64], count: usize, progress: u64) -> bool
@@ -131,7 +131,9 @@ fn keep(list: &mut [u64], count: usize, p: u64, a: u64, e: u64) -> Remains
     if i == j {
         return Remains::Left(count);
     }
-    cut(list, count, i, j, a, e)
+    let room = list.len() / 2;
+    let done = cut(list, count, i, j, a, e, room);
+    done.remains
 }
 
 // The list that an accepted data event leaves; room is judged on the number of its ranges.

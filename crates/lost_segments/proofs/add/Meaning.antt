@@ -1,16 +1,18 @@
 -- What add takes, and what it leaves: the counted ranges are the old ones and behind them the new one.
-use mathlib.Core.Path.{_≡_, refl, sym, ap, _∙_}
-use mathlib.Core.Bool.{Bool, true, false}
+use mathlib.Core.Path.{_≡_, sym, ap, _∙_}
+use mathlib.Core.Bool.{false}
 use mathlib.Core.List.{List, [], _∷_, _++_}
 use mathlib.Core.Logic.{_⊎_, inl, inr, ⊎-elim, _↔_}
 use Prim.Native.Nat.{ℕ, _+_, _≤_, _<_}
 use native.Mathlib.Omega.{arith}
 use lib.ListN.{length, getD, length-append}
-use lib.Dec.{ltb, eqb}
-use borrow.Author.Tests.{eqb-false, ltb-false, ne-eqb, le-ltb}
+use lib.Dec.{ltb}
+use borrow.Author.Tests.{eqb-false, ltb-false, eq-eqb, ne-eqb, le-ltb}
 use Rattle.ranges.specs.Range.{Range, range, In, Covers}
-use Rattle.ranges.specs.Store.{counted, capacity, limitOf, isBadStore, eitherAbove, stored}
+use Rattle.ranges.specs.Store.{counted, capacity, limitOf, eitherAbove, stored}
 use Rattle.outcomes.specs.Outcome.{Outcome, accepted, lent}
+use Rattle.outcomes.specs.Checks.{NoneOf}
+use Rattle.outcomes.proofs.FirstOf.{first-none, first-accepted}
 use Rattle.ranges.proofs.Test.{or-false}
 use Rattle.ranges.proofs.Good.{good}
 use Rattle.ranges.proofs.Flat.{length-counted}
@@ -18,7 +20,7 @@ use Rattle.ranges.proofs.Stored.{counted-stored}
 use Rattle.ranges.proofs.Covering.{covers-append, append-covers}
 use Rattle.lost_segments.specs.declared.Store.{Store}
 use Rattle.lost_segments.specs.Slots.{Slots}
-use Rattle.lost_segments.specs.Add.{addOutcome, addList, Takes}
+use Rattle.lost_segments.specs.Add.{addChecks, addOutcome, addList, Takes}
 use Rattle.lost_segments.proofs.Behind.{stored-slots}
 
 module _ (xs : List ℕ) (st : Store) (s e : ℕ) where
@@ -31,30 +33,29 @@ module _ (xs : List ℕ) (st : Store) (s e : ℕ) where
   abbrev more : List Range
   more = old ++ (range s e ∷ [])
 
-  taken : Takes xs st s e → addOutcome xs st s e ≡ accepted ((st .count + 1) ∷ [])
-  taken t =
+  -- the checks are passed exactly if add takes the range
+  pub takes-of : NoneOf (addChecks xs st s e) → Takes xs st s e
+  takes-of n =
+      let p = good xs (st .count) top (n .0) in
+      let q : s ≡ e → ⊥ = eqb-false _ _ (n .1 .0) in
+      let r : s ≤ e = ltb-false _ _ (n .1 .1 .0) in
+      let o = or-false (ltb top s) (ltb top e) (n .1 .1 .1 .0) in
+      let c : st .count ≡ capacity xs → ⊥ = eqb-false _ _ (n .1 .1 .1 .1 .0) in
+      record { good = n .0; nonempty = omega arith; start-within = ltb-false _ _ (o .0); end-within = ltb-false _ _ (o .1); room = omega arith }
+
+  pub of-takes : Takes xs st s e → NoneOf (addChecks xs st s e)
+  of-takes t =
       let lt = t .nonempty in
       let r = t .room in
-      simp (t .good, ne-eqb s e (λ q. omega arith), le-ltb e s (omega arith), le-ltb top s (t .start-within), le-ltb top e (t .end-within), ne-eqb (st .count) (capacity xs) (λ q. omega arith))
+      let large : eitherAbove top s e ≡ false = rw (le-ltb top s (t .start-within), le-ltb top e (t .end-within)) in
+      (t .good, (ne-eqb s e (λ q. omega arith), (le-ltb e s (omega arith), (large, (ne-eqb (st .count) (capacity xs) (λ q. omega arith), tt)))))
+
+  taken : Takes xs st s e → addOutcome xs st s e ≡ accepted ((st .count + 1) ∷ [])
+  taken t = first-none (addChecks xs st s e) (accepted ((st .count + 1) ∷ [])) (of-takes t)
 
   -- only a call that passes every check is accepted
   takes : addOutcome xs st s e .number ≡ 0 → Takes xs st s e
-  takes = go (isBadStore xs (st .count) top) refl (eqb s e) refl (ltb e s) refl (eitherAbove top s e) refl (eqb (st .count) (capacity xs)) refl
-    where
-      go : (t : Bool) → isBadStore xs (st .count) top ≡ t → (u : Bool) → eqb s e ≡ u → (v : Bool) → ltb e s ≡ v → (w : Bool) → eitherAbove top s e ≡ w
-          → (z : Bool) → eqb (st .count) (capacity xs) ≡ z → addOutcome xs st s e .number ≡ 0 → Takes xs st s e
-      go true f u g v h w i z j k = absurd (omega (arith, simp f at k))
-      go false f true g v h w i z j k = absurd (omega (arith, simp (f, g) at k))
-      go false f false g true h w i z j k = absurd (omega (arith, simp (f, g, h) at k))
-      go false f false g false h true i z j k = absurd (omega (arith, simp (f, g, h, i) at k))
-      go false f false g false h false i true j k = absurd (omega (arith, simp (f, g, h, i, j) at k))
-      go false f false g false h false i false j k =
-          let p = good xs (st .count) top f in
-          let q : s ≡ e → ⊥ = eqb-false _ _ g in
-          let r : s ≤ e = ltb-false _ _ h in
-          let o = or-false (ltb top s) (ltb top e) i in
-          let c : st .count ≡ capacity xs → ⊥ = eqb-false _ _ j in
-          record { good = f; nonempty = omega arith; start-within = ltb-false _ _ (o .0); end-within = ltb-false _ _ (o .1); room = omega arith }
+  takes k = takes-of (first-accepted (addChecks xs st s e) (accepted ((st .count + 1) ∷ [])) (eq-eqb _ 0 k) .0)
 
   -- accepted exactly if add takes the range; the count is one more
   pub add-accepted : (m : ℕ) → (addOutcome xs st s e ≡ accepted (m ∷ [])) ↔ (Takes xs st s e × (m ≡ st .count + 1))

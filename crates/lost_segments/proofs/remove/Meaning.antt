@@ -2,19 +2,21 @@
 -- split has room; then exactly its offsets leave and the list stays coalesced. It is 1 exactly if a range is split and the store is
 -- full, 5 exactly if (a, b) shares an offset with some range and lies inside none, and false exactly if it shares none.
 use mathlib.Core.Path.{_≡_, refl, sym, ap, _∙_}
-use mathlib.Core.Bool.{Bool, true, false, true≢false}
+use mathlib.Core.Bool.{Bool, true, false, not, true≢false}
 use mathlib.Core.List.{List, [], _∷_}
 use mathlib.Core.Logic.{_⊎_, inl, inr, ⊎-elim, _↔_}
 use Prim.Native.Nat.{ℕ, _≤_, _<_}
 use native.Mathlib.Omega.{arith}
 use lib.ListN.{length, getD}
-use lib.Dec.{ltb, eqb}
-use borrow.Author.Tests.{ltb-true, ltb-false, eqb-false, ne-eqb, le-ltb}
-use Rattle.ranges.specs.Range.{Range, Covers, Coalesced, Inside, Shares, some, inside, shares, isCoalesced}
+use lib.Dec.{ltb}
+use borrow.Author.Tests.{ltb-true, ltb-false, eqb-false, ne-eqb, le-ltb, not-false}
+use Rattle.ranges.specs.Range.{Range, Covers, Coalesced, Inside, Shares, some, inside, shares}
 use Rattle.ranges.specs.Without.{Outside, without}
-use Rattle.ranges.specs.Store.{counted, capacity, limitOf, isBadStore, eitherAbove, stored}
+use Rattle.ranges.specs.Store.{counted, capacity, limitOf, eitherAbove, stored}
 use Rattle.outcomes.specs.Outcome.{Outcome, accepted, lent}
 use Rattle.outcomes.specs.Named.{storeFull, invalidSegmentBoundary}
+use Rattle.outcomes.specs.Checks.{NoneOf}
+use Rattle.outcomes.proofs.FirstOf.{first-none}
 use Rattle.ranges.proofs.Test.{or-false, coalesced-of, of-coalesced}
 use Rattle.ranges.proofs.Some.{some-member, inside-true, inside-set, shares-set}
 use Rattle.ranges.proofs.Good.{good}
@@ -23,7 +25,8 @@ use Rattle.ranges.proofs.Stored.{counted-stored, stored-same}
 use Rattle.ranges.proofs.Without.{without-covers, without-coalesced, without-none, length-without}
 use Rattle.lost_segments.specs.declared.Store.{Store}
 use Rattle.lost_segments.specs.Slots.{Slots}
-use Rattle.lost_segments.specs.Remove.{removeFrom, removeOutcome, removeList, Passes, Splits}
+use Rattle.lost_segments.specs.Remove.{removeChecks, removeFrom, removeOutcome, removeList, Passes, Splits}
+use Rattle.lost_segments.proofs.Ends.{Other, none-other}
 use Rattle.lost_segments.proofs.Behind.{stored-slots}
 use Rattle.lost_segments.proofs.remove.Split.{split-of, split-length}
 
@@ -56,27 +59,41 @@ module _ (xs : List ℕ) (st : Store) (a b : ℕ) where
   abbrev Room : Type 0
   Room = Splits a b rs → st .count < capacity xs
 
+  -- the checks, passed, in numbers
+  pub passes-of : NoneOf (removeChecks xs st a b) → Passes xs st a b
+  passes-of n =
+      let o = or-false (ltb top a) (ltb top b) (n .1 .0) in
+      let q : a ≡ b → ⊥ = eqb-false _ _ (n .1 .1 .0) in
+      let r : a ≤ b = ltb-false _ _ (n .1 .1 .1 .0) in
+      record {
+        good = n .0;
+        a-within = ltb-false _ _ (o .0);
+        b-within = ltb-false _ _ (o .1);
+        ordered = omega arith;
+        coalesced = coalesced-of rs (not-false _ (n .1 .1 .1 .1 .0));
+      }
+
+  pub of-passes : Passes xs st a b → NoneOf (removeChecks xs st a b)
+  of-passes p =
+      let lt = p .ordered in
+      let large : eitherAbove top a b ≡ false = rw (le-ltb top a (p .a-within), le-ltb top b (p .b-within)) in
+      (p .good, (large, (ne-eqb a b (λ q. omega arith), (le-ltb b a (omega arith), (ap not (of-coalesced rs (p .coalesced)), tt)))))
+
   -- the answers 0, 1 and 5 come only where all checks are passed
   passed : Late (removeOutcome xs st a b .number) → Passes xs st a b
-  passed = go (isBadStore xs (st .count) top) refl (eitherAbove top a b) refl (eqb a b) refl (ltb b a) refl (isCoalesced rs) refl
+  passed k = passes-of (none-other (removeOutcome xs st a b .number) (removeChecks xs st a b) (removeFrom (capacity xs) rs a b) others refl)
     where
-      go : (t : Bool) → isBadStore xs (st .count) top ≡ t → (u : Bool) → eitherAbove top a b ≡ u → (v : Bool) → eqb a b ≡ v → (w : Bool) → ltb b a ≡ w
-          → (z : Bool) → isCoalesced rs ≡ z → Late (removeOutcome xs st a b .number) → Passes xs st a b
-      go true f u g v h w i z j k = absurd (⊎-elim (λ q. omega arith) (λ q. omega arith) (simp f at k))
-      go false f true g v h w i z j k = absurd (⊎-elim (λ q. omega arith) (λ q. omega arith) (simp (f, g) at k))
-      go false f false g true h w i z j k = absurd (⊎-elim (λ q. omega arith) (λ q. omega arith) (simp (f, g, h) at k))
-      go false f false g false h true i z j k = absurd (⊎-elim (λ q. omega arith) (λ q. omega arith) (simp (f, g, h, i) at k))
-      go false f false g false h false i false j k = absurd (⊎-elim (λ q. omega arith) (λ q. omega arith) (simp (f, g, h, i, j) at k))
-      go false f false g false h false i true j k =
-          let o = or-false (ltb top a) (ltb top b) g in
-          let q : a ≡ b → ⊥ = eqb-false _ _ h in
-          let r : a ≤ b = ltb-false _ _ i in
-          record { good = f; a-within = ltb-false _ _ (o .0); b-within = ltb-false _ _ (o .1); ordered = omega arith; coalesced = coalesced-of rs j }
+      late : (n : ℕ) → 1 < n → (n ≡ 5 → ⊥) → n ≡ removeOutcome xs st a b .number → ⊥
+      late n h f e = ⊎-elim (λ q. omega arith) (λ q. f (e ∙ q)) k
+
+      others : Other (removeOutcome xs st a b .number) (removeChecks xs st a b)
+      others = (
+        late 10 (omega arith) (λ e. omega arith),
+        (late 4 (omega arith) (λ e. omega arith), (late 2 (omega arith) (λ e. omega arith), (late 3 (omega arith) (λ e. omega arith), (late 8 (omega arith) (λ e. omega arith), tt)))),
+      )
 
   passes : Passes xs st a b → removeOutcome xs st a b ≡ removeFrom (capacity xs) rs a b
-  passes p =
-      let lt = p .ordered in
-      simp (p .good, le-ltb top a (p .a-within), le-ltb top b (p .b-within), ne-eqb a b (λ q. omega arith), le-ltb b a (omega arith), of-coalesced rs (p .coalesced))
+  passes p = first-none (removeChecks xs st a b) (removeFrom (capacity xs) rs a b) (of-passes p)
 
   -- the four ends of a call that passes the checks
   data End : Outcome → Type 0 where

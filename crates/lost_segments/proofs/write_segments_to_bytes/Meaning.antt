@@ -1,7 +1,7 @@
 -- What write_segments_to_bytes accepts and leaves: the buffer is exactly the octets of the counted numbers. They determine the
 -- numbers: lists of the same length whose numbers fit the field have the same octets only if they are the same list.
 use mathlib.Core.Path.{_≡_, refl, sym, ap, ap₂, _∙_}
-use mathlib.Core.Bool.{Bool, true, false}
+use mathlib.Core.Bool.{false, not}
 use mathlib.Core.List.{List, [], _∷_}
 use mathlib.Core.Logic.{_↔_}
 use Prim.Native.Nat.{ℕ, _*_}
@@ -9,9 +9,10 @@ use native.Mathlib.Omega.{arith}
 use lib.ListN.{length, getD, take, drop}
 use lib.Dec.{eqb}
 use lib.Seq.{take-at, drop-at}
-use borrow.Author.Tests.{eq-eqb, eqb-true, ltb-false}
+use borrow.Author.Tests.{eq-eqb, eqb-true, ltb-false, not-false}
 use Rattle.ranges.specs.Store.{limitOf, isBadStore, anyAbove}
 use Rattle.outcomes.specs.Outcome.{Outcome, accepted, lent}
+use Rattle.outcomes.proofs.FirstOf.{first-none, first-accepted}
 use Rattle.ranges.proofs.Test.{or-false}
 use Rattle.ranges.proofs.Good.{good}
 use Rattle.octets.specs.declared.LargeFileFlag.{LargeFileFlag}
@@ -20,7 +21,7 @@ use Rattle.octets.specs.Octets.{field, fields, number}
 use Rattle.octets.proofs.Fields.{length-field, got-put}
 use Rattle.octets.proofs.Largest.{largest-fits}
 use Rattle.lost_segments.specs.declared.Store.{Store}
-use Rattle.lost_segments.specs.WriteSegmentsToBytes.{writeLength, writeOutcome, writeBuffer}
+use Rattle.lost_segments.specs.WriteSegmentsToBytes.{writeLength, writeChecks, writeOutcome, writeBuffer}
 use Rattle.lost_segments.proofs.write_segments_to_bytes.Sizes.{length-octets}
 
 pub octets-determine : (flag : LargeFileFlag) (xs ys : List ℕ) → length xs ≡ length ys → anyAbove (largestOf flag) xs ≡ false → anyAbove (largestOf flag) ys ≡ false
@@ -42,19 +43,25 @@ module _ (xs : List ℕ) (st : Store) (flag : LargeFileFlag) (buf : List ℕ) wh
   pub write-accepted : (m : ℕ) → (writeOutcome xs st flag buf ≡ accepted (m ∷ []))
       ↔ ((isBadStore xs (st .count) (limitOf (st .width)) ≡ false)
       × (length buf ≡ writeLength st flag) × (anyAbove (largestOf flag) (take (2 * st .count) xs) ≡ false) × (m ≡ writeLength st flag))
-  write-accepted m = (
-    go (isBadStore xs (st .count) (limitOf (st .width))) refl (eqb (length buf) (writeLength st flag)) refl (anyAbove (largestOf flag) (take (2 * st .count) xs)) refl,
-    λ h. rw (h .0, eq-eqb (length buf) (writeLength st flag) (h .1), h .2, h .3),
-  )
+  write-accepted m = (to, from)
     where
-      go : (t : Bool) → isBadStore xs (st .count) (limitOf (st .width)) ≡ t → (u : Bool) → eqb (length buf) (writeLength st flag) ≡ u
-          → (v : Bool) → anyAbove (largestOf flag) (take (2 * st .count) xs) ≡ v → writeOutcome xs st flag buf ≡ accepted (m ∷ [])
+      done : Outcome
+      done = accepted (writeLength st flag ∷ [])
+
+      to : writeOutcome xs st flag buf ≡ accepted (m ∷ [])
           → (isBadStore xs (st .count) (limitOf (st .width)) ≡ false)
           × (length buf ≡ writeLength st flag) × (anyAbove (largestOf flag) (take (2 * st .count) xs) ≡ false) × (m ≡ writeLength st flag)
-      go true e u f v g h = let z = ap (λ (o : Outcome). o .number) h in absurd (omega (arith, rw e at z))
-      go false e false f v g h = let z = ap (λ (o : Outcome). o .number) h in absurd (omega (arith, rw (e, f) at z))
-      go false e true f true g h = let z = ap (λ (o : Outcome). o .number) h in absurd (omega (arith, rw (e, f, g) at z))
-      go false e true f false g h = (e, eqb-true _ _ f, g, ap (λ (o : Outcome). getD (o .values) 0 0) (sym h) ∙ rw (e, f, g))
+      to h =
+          let n = first-accepted (writeChecks xs st flag (length buf)) done (ap (λ (o : Outcome). eqb (o .number) 0) h) .0 in
+          let e = sym h ∙ first-none (writeChecks xs st flag (length buf)) done n in
+          (n .0, eqb-true _ _ (not-false _ (n .1 .0)), n .1 .1 .0, ap (λ (o : Outcome). getD (o .values) 0 0) e)
+
+      from : (isBadStore xs (st .count) (limitOf (st .width)) ≡ false)
+          × (length buf ≡ writeLength st flag) × (anyAbove (largestOf flag) (take (2 * st .count) xs) ≡ false) × (m ≡ writeLength st flag)
+          → writeOutcome xs st flag buf ≡ accepted (m ∷ [])
+      from h =
+          first-none (writeChecks xs st flag (length buf)) done (h .0, (ap not (eq-eqb (length buf) (writeLength st flag) (h .1)), (h .2, tt)))
+          ∙ ap (λ (k : ℕ). accepted (k ∷ [])) (sym (h .3))
 
   -- the buffer afterwards is exactly the octets, m of them
   pub write-octets : (m : ℕ) → writeOutcome xs st flag buf ≡ accepted (m ∷ []) → writeBuffer xs st flag buf ≡ fields (fieldLength flag) (take (2 * st .count) xs)

@@ -6,6 +6,7 @@ use native.Mathlib.Nat.{mul-comm, mul-assoc, mul-le-mul-left}
 use native.Mathlib.Omega.{arith}
 use lib.ListN.{length, take}
 use lib.Seq.{length-take-le}
+use Rattle.ranges.specs.Store.{mostPairs}
 use Rattle.octets.specs.declared.LargeFileFlag.{LargeFileFlag}
 use Rattle.octets.specs.declared.LargeFileFlag.the-variants.{Normal, Large}
 use Rattle.octets.specs.Flag.{fieldLength}
@@ -16,7 +17,7 @@ pub field-length-le : (flag : LargeFileFlag) → fieldLength flag ≤ 8
 field-length-le Normal = omega arith
 field-length-le Large = omega arith
 
-pub few-octets : (n f : ℕ) → n ≤ 4096 → f ≤ 8 → n * (2 * f) ≤ 65536
+pub few-octets : (n f : ℕ) → n ≤ mostPairs → f ≤ 8 → n * (2 * f) ≤ 65536
 few-octets n f h k =
     let a : n * (2 * f) ≤ n * 16 = mul-le-mul-left n (omega arith) in
     omega arith

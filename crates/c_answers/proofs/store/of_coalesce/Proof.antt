@@ -13,17 +13,17 @@ wide-requires c κs = search needs
 with-one-requires : tie.Need-with-one-requires
 with-one-requires c κs = search needs
 
-enum-told : tie.Need-enum-told
-enum-told c = search needs
+enum-known-a-2 : tie.Need-enum-known-a-2
+enum-known-a-2 c = search needs
 
-bare-requires : tie.Need-bare-requires
-bare-requires c κs = search needs
+of-refusal-requires : tie.Need-of-refusal-requires
+of-refusal-requires c κs = search needs
 
 returns : tie.Need-returns
 returns c = rw (c .before .before .before .a .given .1, sym (c .before .wide .ensures)) (c .with-one .ensures)
 
 returns-2 : tie.Need-returns-2
-returns-2 c = rw (c .before .enum-told .given .1) (c .bare .ensures)
+returns-2 c = rw (c .before .before .a2 .given .1) (c .of-refusal .ensures)
 
 pub of-coalesce-spec : {M : Type 1} → statement M
 of-coalesce-spec =
@@ -32,7 +32,7 @@ of-coalesce-spec =
     enum-known-a
     wide-requires
     with-one-requires
-    enum-told
-    bare-requires
+    enum-known-a-2
+    of-refusal-requires
     returns
     returns-2)

@@ -15,11 +15,11 @@ enum-told-2 c = search needs
 with-one-requires-2 : tie.Need-with-one-requires-2
 with-one-requires-2 c κs = search needs
 
-enum-told-3 : tie.Need-enum-told-3
-enum-told-3 c = search needs
+enum-known-a : tie.Need-enum-known-a
+enum-known-a c = search needs
 
-bare-requires : tie.Need-bare-requires
-bare-requires c κs = search needs
+of-refusal-requires : tie.Need-of-refusal-requires
+of-refusal-requires c κs = search needs
 
 returns : tie.Need-returns
 returns c = rw (c .before .enum-told .given .1) (c .with-one .ensures)
@@ -28,7 +28,7 @@ returns-2 : tie.Need-returns-2
 returns-2 c = rw (c .before .enum-told2 .given .1) (c .with-one2 .ensures)
 
 returns-3 : tie.Need-returns-3
-returns-3 c = rw (c .before .enum-told3 .given .1) (c .bare .ensures)
+returns-3 c = rw (c .before .before .a .given .1) (c .of-refusal .ensures)
 
 pub of-in-store-spec : {M : Type 1} → statement M
 of-in-store-spec =
@@ -38,8 +38,8 @@ of-in-store-spec =
     with-one-requires
     enum-told-2
     with-one-requires-2
-    enum-told-3
-    bare-requires
+    enum-known-a
+    of-refusal-requires
     returns
     returns-2
     returns-3)

@@ -1,65 +1,89 @@
 -- `Store::coalesce` meets its contract: only 10 refuses, and else the list holds the maximal runs of the counted pairs.
-use borrow.Author.Needs.{needs}
-use Prim.Native.Nat.{ℕ}
-use mathlib.Core.Path.{_≡_, sym, ap, _∙_}
+use mathlib.Core.Path.{_≡_, ap, _∙_}
 use mathlib.Core.List.{List, [], _∷_}
+use Prim.Native.Nat.{ℕ}
+use lib.ListN.{length}
+use borrow.Author.Needs.{needs}
+use Rattle.ranges.specs.Range.{Range}
 use Rattle.ranges.specs.Store.{counted, stored}
-use Rattle.outcomes.specs.Outcome.{Outcome, accepted, lent}
-use Rattle.outcomes.specs.Named.{badStore}
 use Rattle.ranges.proofs.Good.{good}
+use Rattle.outcomes.specs.Outcome.{Outcome, accepted}
+use Rattle.outcomes.specs.Checks.{Check, NoneOf}
 use Rattle.lost_segments.specs.declared.Store.{Store}
-use Rattle.lost_segments.specs.Coalesce.{maximalRuns, coalesceOutcome, coalesceList}
+use Rattle.lost_segments.specs.Checks.{storeChecks}
+use Rattle.lost_segments.specs.Coalesce.{maximalRuns}
+use Rattle.lost_segments.proofs.Ends.{passed, refused-end, passed-end}
 use Rattle.lost_segments.proofs.Store.coalesce.Statement.{statement}
 use Rattle.lost_segments.proofs.Store.coalesce.Tie as tie
 
--- an answer, and what it leaves
-answer : (xs : List ℕ) (st : Store) (o : Outcome) → o ≡ coalesceOutcome xs st
-    → (o ≡ coalesceOutcome xs st) × (lent o (stored (maximalRuns (counted xs (st .count))) (st .count) xs) xs ≡ coalesceList xs st)
-answer xs st o p = (p, ap (λ (o : Outcome). lent o (stored (maximalRuns (counted xs (st .count))) (st .count) xs) xs) p)
+-- what the call begins with
+abbrev st : tie.After-store-checks → Store
+st b = b .before .before .before .args .self
 
-limit-requires : tie.Need-limit-requires
-limit-requires c κs = search needs
+abbrev xs : tie.After-store-checks → List ℕ
+xs b = b .before .before .before .args .list .now
 
-bad-store-requires : tie.Need-bad-store-requires
-bad-store-requires c κs = search needs
+-- the checks, what they leave, and the list then
+abbrev checks : tie.After-store-checks → List Check
+checks b = storeChecks (xs b) (st b)
+
+abbrev runs : tie.After-store-checks → List Range
+runs b = maximalRuns (counted (xs b) (st b .count))
+
+abbrev done : tie.After-store-checks → Outcome
+done b = accepted (length (runs b) ∷ [])
+
+abbrev left : tie.After-store-checks → List ℕ
+left b = stored (runs b) (st b .count) (xs b)
+
+-- the checks are passed
+abbrev fromP : tie.After-enum-told → tie.After-store-checks
+fromP c = c .before .before
+
+none : (c : tie.After-enum-told) → NoneOf (checks (fromP c))
+none c = let b = fromP c in passed (checks b) _ (b .store-checks .ensures) (c .enum-told .given .1)
+
+store-checks-requires : tie.Need-store-checks-requires
+store-checks-requires c κs = search needs
+
+enum-known-found : tie.Need-enum-known-found
+enum-known-found c = search needs
 
 same-length : tie.Need-same-length
 same-length c = search needs
 
 returns : tie.Need-returns
 returns c =
-    let a = c .before .before .before .before .before .args in
-    answer (a .list .now) (a .self) badStore
-    (simp (
-      sym (c .before .before .before .limit .ensures),
-      sym (c .before .bad-store .ensures) ∙ c .if1 .taken,
-    ))
+    let b = c .before .before .before in
+    refused-end (checks b) (done b) _ (c .before .found .given .0 .0) (left b) (xs b) (b .store-checks .ensures) (c .before .found .given .1)
+
+enum-told : tie.Need-enum-told
+enum-told c = search needs
 
 coalesce-counted-requires : tie.Need-coalesce-counted-requires
-coalesce-counted-requires c κs = good _ _ _ (sym (c .before .before .bad-store .ensures) ∙ c .before .if1 .left) .room
+coalesce-counted-requires c κs = good _ _ _ (none (c .before) .0) .room
 
 same-length-2 : tie.Need-same-length-2
 same-length-2 c = search needs
 
 returns-2 : tie.Need-returns-2
 returns-2 c =
-    let a = c .before .before .before .before .before .before .before .before .before .args in
+    let p = c .before .before .before .before in
+    let b = fromP p in
     let r = c .before .before .coalesce-counted .ensures in
-    let w = answer (a .list .now) (a .self) (accepted (c .before .before .coalesce-counted .result ∷ []))
-    (simp (
-      sym (c .before .before .before .before .before .before .before .limit .ensures),
-      sym (c .before .before .before .before .before .bad-store .ensures) ∙ c .before .before .before .before .if1 .left,
-    ) (ap (λ (m : ℕ). accepted (m ∷ [])) (r .0))) in
+    let o : Outcome = accepted (c .before .before .coalesce-counted .result ∷ []) in
+    let w = passed-end (checks b) (done b) o (left b) (xs b) (none p) (ap (λ (m : ℕ). accepted (m ∷ [])) (r .0)) in
     (w .0, r .1 ∙ w .1)
 
 pub coalesce-spec : {M : Type 1} → statement M
 coalesce-spec =
     tie.close
     (tie.spec
-    limit-requires
-    bad-store-requires
+    store-checks-requires
+    enum-known-found
     same-length
     returns
+    enum-told
     coalesce-counted-requires
     same-length-2
     returns-2)

@@ -1,147 +1,121 @@
--- `Store::write_segments_to_bytes` meets its contract: each answer is that of the checks in order, and the buffer is as it was
--- or holds the fields of the counted numbers.
-use borrow.Author.Needs.{needs}
-use borrow.Author.Tests.{eq-eqb, ne-eqb}
+-- `Store::write_segments_to_bytes` meets its contract: the checks refuse, or the buffer holds the fields of the counted numbers.
 use native.Mathlib.Omega.{arith}
-use Prim.Native.Nat.{ℕ, _*_, _≤_}
 use mathlib.Core.Path.{_≡_, sym, ap, _∙_}
 use mathlib.Core.List.{List, [], _∷_}
-use mathlib.Core.Bool.{true, false}
-use lib.Dec.{eqb}
+use Prim.Native.Nat.{ℕ, _*_, _≤_}
 use lib.ListN.{length, take}
-use Rattle.outcomes.specs.Outcome.{Outcome, accepted, lent}
-use Rattle.outcomes.specs.Named.{bufferSizeMissmatch, largeSegmentForNormalFileSize, badStore}
-use Rattle.ranges.specs.Store.{limitOf, isBadStore, anyAbove}
-use Rattle.ranges.proofs.Good.{good}
+use borrow.Author.Needs.{needs}
+use borrow.Author.Tests.{eqb-true, not-false}
+use Rattle.ranges.proofs.Good.{Good, good}
+use Rattle.ranges.specs.Store.{limitOf}
+use Rattle.outcomes.specs.Outcome.{Outcome, accepted}
+use Rattle.outcomes.specs.Checks.{Check, NoneOf}
 use Rattle.octets.specs.declared.LargeFileFlag.{LargeFileFlag}
-use Rattle.octets.specs.Flag.{fieldLength, largestOf}
+use Rattle.octets.specs.Flag.{fieldLength}
 use Rattle.octets.specs.Octets.{fields}
 use Rattle.octets.proofs.Over.{over-whole}
 use Rattle.lost_segments.specs.declared.Store.{Store}
-use Rattle.lost_segments.specs.WriteSegmentsToBytes.{writeLength, writeOutcome, writeBuffer}
-use Rattle.lost_segments.proofs.write_segments_to_bytes.Sizes.{field-length-le, few-octets, pair-octets, length-octets}
+use Rattle.lost_segments.specs.WriteSegmentsToBytes.{writeLength, writeChecks}
+use Rattle.lost_segments.proofs.Ends.{passed, refused-end, passed-end}
+use Rattle.lost_segments.proofs.write_segments_to_bytes.Sizes.{pair-octets, length-octets}
 use Rattle.lost_segments.proofs.Store.write_segments_to_bytes.Statement.{statement}
 use Rattle.lost_segments.proofs.Store.write_segments_to_bytes.Tie as tie
 
--- an answer, and what it leaves
-answer : (xs : List ℕ) (st : Store) (flag : LargeFileFlag) (buf : List ℕ) (o : Outcome) → o ≡ writeOutcome xs st flag buf
-    → (o ≡ writeOutcome xs st flag buf) × (lent o (fields (fieldLength flag) (take (2 * st .count) xs)) buf ≡ writeBuffer xs st flag buf)
-answer xs st flag buf o p = (p, ap (λ (o : Outcome). lent o (fields (fieldLength flag) (take (2 * st .count) xs)) buf) p)
+-- what the call begins with
+abbrev st : tie.After-write-checks → Store
+st b = b .before .before .before .args .self
 
--- all checks passed
-written : (xs : List ℕ) (st : Store) (flag : LargeFileFlag) (buf : List ℕ) → isBadStore xs (st .count) (limitOf (st .width)) ≡ false
-    → eqb (length buf) (writeLength st flag) ≡ true → anyAbove (largestOf flag) (take (2 * st .count) xs) ≡ false
-    → accepted (writeLength st flag ∷ []) ≡ writeOutcome xs st flag buf
-written xs st flag buf p q r = rw (p, q, r)
+abbrev xs : tie.After-write-checks → List ℕ
+xs b = b .before .before .before .args .list .now
 
-limit-requires : tie.Need-limit-requires
-limit-requires c κs = search needs
+abbrev buf : tie.After-write-checks → List ℕ
+buf b = b .before .before .before .args .buf .now
 
-bad-store-requires : tie.Need-bad-store-requires
-bad-store-requires c κs = search needs
+abbrev flag : tie.After-write-checks → LargeFileFlag
+flag b = b .before .before .before .args .flag
+
+-- the checks, what they leave, and the octets then
+abbrev checks : tie.After-write-checks → List Check
+checks b = writeChecks (xs b) (st b) (flag b) (length (buf b))
+
+abbrev done : tie.After-write-checks → Outcome
+done b = accepted (writeLength (st b) (flag b) ∷ [])
+
+abbrev octets : tie.After-write-checks → List ℕ
+octets b = fields (fieldLength (flag b)) (take (2 * st b .count) (xs b))
+
+-- the checks are passed
+abbrev fromP : tie.After-enum-told → tie.After-write-checks
+fromP c = c .before .before
+
+none : (c : tie.After-enum-told) → NoneOf (checks (fromP c))
+none c = let b = fromP c in passed (checks b) _ (b .write-checks .ensures) (c .enum-told .given .1)
+
+store : (c : tie.After-enum-told) → let b = fromP c in Good (xs b) (st b .count) (limitOf (st b .width))
+store c = good _ _ _ (none c .0)
+
+fits : (c : tie.After-enum-told) → length (buf (fromP c)) ≡ writeLength (st (fromP c)) (flag (fromP c))
+fits c = eqb-true _ _ (not-false _ (none c .1 .0))
+
+-- the field's length
+abbrev fromF : tie.After-field-length → tie.After-write-checks
+fromF c = fromP (c .before)
+
+size : (c : tie.After-field-length) → c .field-length .result ≡ fieldLength (flag (fromF c))
+size c = c .field-length .ensures
+
+write-checks-requires : tie.Need-write-checks-requires
+write-checks-requires c κs = search needs
+
+enum-known-found : tie.Need-enum-known-found
+enum-known-found c = search needs
 
 returns : tie.Need-returns
 returns c =
-    let a = c .before .before .before .before .before .args in
-    answer (a .list .now) (a .self) (a .flag) (a .buf .now) badStore
-    (simp (
-      sym (c .before .before .limit .ensures),
-      sym (c .before .bad-store .ensures) ∙ c .if1 .taken,
-    ))
+    let b = c .before .before .before in
+    refused-end (checks b) (done b) _ (c .before .found .given .0 .0) (octets b) (buf b) (b .write-checks .ensures) (c .before .found .given .1)
+
+enum-told : tie.Need-enum-told
+enum-told c = search needs
 
 field-length-requires : tie.Need-field-length-requires
 field-length-requires c κs = search needs
 
-mul-needed : tie.Need-mul-needed
-mul-needed c =
-    let a = c .before .before .before .before .before .before .args in
-    omega (arith, c .field-length .ensures, field-length-le (a .flag))
-
-mul-needed-2 : tie.Need-mul-needed-2
-mul-needed-2 c =
-    let a = c .before .before .before .before .before .before .args in
-    let g = good _ _ _ (sym (c .before .before .bad-store .ensures) ∙ c .before .if1 .left) in
-    let f = c .field-length .result in
-    let k : f ≤ 8 = omega (arith, c .field-length .ensures, field-length-le (a .flag)) in
-    let m = few-octets (a .self .count) f (omega arith) k in
-    omega arith
-
-returns-2 : tie.Need-returns-2
-returns-2 c =
-    let a = c .before .before .before .before .before .before .before .args in
-    let f = c .before .field-length .result in
-    answer (a .list .now) (a .self) (a .flag) (a .buf .now) (bufferSizeMissmatch (a .self .count * (2 * f)) (length (a .buf .now)))
-    (simp (
-      sym (c .before .before .before .before .limit .ensures),
-      sym (c .before .before .before .bad-store .ensures) ∙ c .before .before .if1 .left,
-      sym (c .before .field-length .ensures),
-      ne-eqb _ _ (c .if2 .taken),
-    ))
-
-largest-requires : tie.Need-largest-requires
-largest-requires c κs = search needs
-
-mul-any-too-large : tie.Need-mul-any-too-large
-mul-any-too-large c = let g = good _ _ _ (sym (c .before .before .before .before .bad-store .ensures) ∙ c .before .before .before .if1 .left) in omega arith
-
-any-too-large-requires : tie.Need-any-too-large-requires
-any-too-large-requires c κs = let g = good _ _ _ (sym (c .before .before .before .before .bad-store .ensures) ∙ c .before .before .before .if1 .left) in (g .room, g .below)
-
-returns-3 : tie.Need-returns-3
-returns-3 c =
-    let a = c .before .before .before .before .before .before .before .before .before .before .args in
-    answer (a .list .now) (a .self) (a .flag) (a .buf .now) largeSegmentForNormalFileSize
-    (simp (
-      sym (c .before .before .before .before .before .before .before .limit .ensures),
-      sym (c .before .before .before .before .before .before .bad-store .ensures) ∙ c .before .before .before .before .before .if1 .left,
-      sym (c .before .before .before .before .field-length .ensures),
-      eq-eqb _ _ (c .before .before .before .if2 .left),
-      sym (c .before .before .largest .ensures),
-      sym (c .before .any-too-large .ensures) ∙ c .if3 .taken,
-    ))
-
 mul-put-all : tie.Need-mul-put-all
-mul-put-all c = let g = good _ _ _ (sym (c .before .before .before .before .before .before .before .bad-store .ensures) ∙ c .before .before .before .before .before .before .if1 .left) in omega arith
+mul-put-all c = let g = store (c .before .before .before) in omega arith
 
 put-all-requires : tie.Need-put-all-requires
 put-all-requires c κs =
-    let a = c .before .before .before .before .before .before .before .before .before .before .before .args in
-    let g = good _ _ _ (sym (c .before .before .before .before .before .before .before .bad-store .ensures) ∙ c .before .before .before .before .before .before .if1 .left) in
-    let p = pair-octets (a .self .count) (c .before .before .before .before .before .field-length .result) in
+    let d = c .before .before in
+    let p = d .before in
+    let g = store p in
+    let n : c .before .before .field-length .result * (2 * st (fromP p) .count) ≡ length (buf (fromP p)) =
+    pair-octets (st (fromP p) .count) (d .field-length .result) ∙ ap (λ (f : ℕ). st (fromP p) .count * (2 * f)) (size d) ∙ sym (fits p) in
     (omega arith, omega arith)
 
 same-length : tie.Need-same-length
 same-length c = search needs
 
-returns-4 : tie.Need-returns-4
-returns-4 c =
-    let a = c .before .before .before .before .before .before .before .before .before .before .before .before .before .before .args in
-    let g = good _ _ _ (sym (c .before .before .before .before .before .before .before .before .before .before .bad-store .ensures) ∙ c .before .before .before .before .before .before .before .before .before .if1 .left) in
-    let f = c .before .before .before .before .before .before .before .before .field-length .result in
-    let e = c .before .before .before .before .before .before .before .before .field-length .ensures in
-    let p : isBadStore (a .list .now) (a .self .count) (limitOf (a .self .width)) ≡ false = rw (sym (c .before .before .before .before .before .before .before .before .before .before .before .limit .ensures)) (sym (c .before .before .before .before .before .before .before .before .before .before .bad-store .ensures) ∙ c .before .before .before .before .before .before .before .before .before .if1 .left) in
-    let q : eqb (length (a .buf .now)) (writeLength (a .self) (a .flag)) ≡ true = rw (sym e) (eq-eqb _ _ (c .before .before .before .before .before .before .before .if2 .left)) in
-    let u : anyAbove (largestOf (a .flag)) (take (2 * a .self .count) (a .list .now)) ≡ false = rw (sym (c .before .before .before .before .before .before .largest .ensures)) (sym (c .before .before .before .before .before .any-too-large .ensures) ∙ c .before .before .before .before .if3 .left) in
-    let w = answer (a .list .now) (a .self) (a .flag) (a .buf .now) (accepted (writeLength (a .self) (a .flag) ∷ [])) (written (a .list .now) (a .self) (a .flag) (a .buf .now) p q u) in
-    let l = length-octets f (a .self .count) (a .list .now) (g .room) in
-    (rw e (w .0), c .before .before .put-all .ensures ∙ over-whole (a .buf .now) (fields f (take (2 * a .self .count) (a .list .now))) (omega arith) ∙ rw e (w .1))
+returns-2 : tie.Need-returns-2
+returns-2 c =
+    let d = c .before .before .before .before .before in
+    let p = d .before in
+    let b = fromP p in
+    let f = d .field-length .result in
+    let w = passed-end (checks b) (done b) (accepted (length (buf b) ∷ [])) (octets b) (buf b) (none p) (ap (λ (m : ℕ). accepted (m ∷ [])) (fits p)) in
+    let l = length-octets (fieldLength (flag b)) (st b .count) (xs b) (store p .room) in
+    (w .0, c .before .before .put-all .ensures ∙ rw (size d) (over-whole (buf b) (octets b) (l ∙ sym (fits p))) ∙ w .1)
 
 pub write-segments-to-bytes-spec : {M : Type 1} → statement M
 write-segments-to-bytes-spec =
     tie.close
     (tie.spec
-    limit-requires
-    bad-store-requires
+    write-checks-requires
+    enum-known-found
     returns
+    enum-told
     field-length-requires
-    mul-needed
-    mul-needed-2
-    returns-2
-    largest-requires
-    mul-any-too-large
-    any-too-large-requires
-    returns-3
     mul-put-all
     put-all-requires
     same-length
-    returns-4)
+    returns-2)

@@ -1,5 +1,5 @@
 -- `lost_segments::coalesce::coalesce_counted` meets its contract.
-use Rattle.lost_segments.proofs.coalesce.Anew.{same-runs, anew}
+use Rattle.lost_segments.proofs.coalesce.Reordered.{same-runs, same-stored}
 use native.Mathlib.Omega.{arith}
 use mathlib.Core.Path.{ap, _∙_}
 use lib.ListN.{length}
@@ -17,7 +17,13 @@ same-length : tie.Need-same-length
 same-length c = search needs
 
 returns : tie.Need-returns
-returns c = let a = c .before .before .before .before .before .before .before .before .before .args in let s = c .before .before .before .before .before .before .sort-pairs .ensures .same in let m = c .before .before .merge-ascending .ensures in (m .0 ∙ ap length (same-runs (a .list .now) _ (a .n) (omega arith) s), m .1 ∙ anew (a .list .now) _ (a .n) (omega arith) s)
+returns c =
+    let a = c .before .before .before .before .before .before .before .before .before .args in
+    let s = c .before .before .before .before .before .before .sort-pairs .ensures .same in
+    let m = c .before .before .merge-ascending .ensures in (
+      m .0 ∙ ap length (same-runs (a .list .now) _ (a .n) (omega arith) s),
+      m .1 ∙ same-stored (a .list .now) _ (a .n) (omega arith) s,
+    )
 
 pub coalesce-counted-spec : {M : Type 1} → statement M
 coalesce-counted-spec =

@@ -1,47 +1,74 @@
--- `lost_segments::coalesce::merge_ascending` meets its contract.
-use Rattle.ranges.proofs.Flat.{length-counted}
-use Rattle.lost_segments.proofs.coalesce.Going.{Going, whole, finish}
-use Rattle.lost_segments.proofs.coalesce.Passing.{Passing, pass-begin, pass-low, pass-step}
-use borrow.Author.Needs.{needs}
+-- `merge_ascending` meets its contract: one pair more is merged with each turn.
 use native.Mathlib.Omega.{arith}
-use Prim.Native.Nat.{_-_}
+use Prim.Native.Nat.{ℕ, _-_, _≤_, _*_}
 use mathlib.Core.Path.{_≡_, sym, ap, _∙_}
+use mathlib.Core.List.{List}
 use lib.ListN.{length}
+use borrow.Author.Needs.{needs}
+use Rattle.ranges.specs.Insert.{join}
+use Rattle.ranges.specs.Store.{counted, stored}
+use Rattle.ranges.proofs.Flat.{at, length-counted}
+use Rattle.lost_segments.specs.Inner.{Low}
+use Rattle.pair_sort.specs.Sorted.{key}
+use Rattle.lost_segments.proofs.coalesce.JoinLast.{low-weak}
+use Rattle.lost_segments.proofs.coalesce.MergedSoFar.{MergedSoFar, whole, finish}
+use Rattle.lost_segments.proofs.coalesce.MergeLoop.{MergeLoop, pass-begin, pass-low, pass-step}
 use Rattle.lost_segments.proofs.coalesce.merge_ascending.Statement.{statement}
 use Rattle.lost_segments.proofs.coalesce.merge_ascending.Tie as tie
 
 abbrev Inv-loop : tie.InvT-loop
-Inv-loop list₀ n m₀ k₀ list m k = Passing list₀ list n m k
+Inv-loop list₀ n m₀ k₀ list m k = MergeLoop list₀ list n m k
 
 abbrev μ-loop : tie.MeasureT-loop
 μ-loop list₀ n m₀ k₀ list m k = n - k
 
+-- where the loop stands once the next pair is read
+abbrev head : tie.After-end-at Inv-loop μ-loop → tie.At-loop Inv-loop μ-loop
+head c = c .before .before .before .before .before
+
+abbrev start : tie.After-end-at Inv-loop μ-loop → tie.Start Inv-loop μ-loop
+start c = head c .before .before
+
+abbrev xs : tie.After-end-at Inv-loop μ-loop → List ℕ
+xs c = start c .args .list .now
+
+abbrev l : tie.After-end-at Inv-loop μ-loop → List ℕ
+l c = head c .loop .list
+
+abbrev n : tie.After-end-at Inv-loop μ-loop → ℕ
+n c = start c .args .n
+
+abbrev m : tie.After-end-at Inv-loop μ-loop → ℕ
+m c = head c .loop .m
+
+abbrev k : tie.After-end-at Inv-loop μ-loop → ℕ
+k c = head c .loop .k
+
+-- what is merged so far starts no later than that pair
+low : (c : tie.After-end-at Inv-loop μ-loop) → Low (c .before .before .start-at .result) (counted (l c) (m c))
+low c =
+    low-weak (key (l c) (k c)) (c .before .before .start-at .result) (counted (l c) (m c)) (omega (arith, c .before .before .start-at .ensures))
+    (pass-low (xs c) (l c) (n c) (m c) (k c) (c .before .before .before .before .loop-test .taken) (head c .loop .inv))
+
+-- what `put_last` leaves is the list with that pair merged
+merged : (c : tie.After-put-last Inv-loop μ-loop) → let d = c .before .before in
+    (c .put-last .result ≡ length (join (at (l d) (k d)) (counted (l d) (m d))))
+    × (c .put-last .last .0 ≡ stored (join (at (l d) (k d)) (counted (l d) (m d))) (m d) (l d))
+merged c =
+    let d = c .before .before in
+    rw (sym (d .before .before .start-at .ensures), sym (d .end-at .ensures)) (c .put-last .ensures)
+
 loop-holds : tie.Need-loop-holds Inv-loop μ-loop
 loop-holds c = pass-begin (c .before .args .list .now) (c .before .args .n)
 
-mul-s : tie.Need-mul-s Inv-loop μ-loop
-mul-s c = search needs
+start-at-requires : tie.Need-start-at-requires Inv-loop μ-loop
+start-at-requires c κs = search needs
 
-mul-s-2 : tie.Need-mul-s-2 Inv-loop μ-loop
-mul-s-2 c = search needs
-
-slice-read-s : tie.Need-slice-read-s Inv-loop μ-loop
-slice-read-s c = search needs
-
-mul-e : tie.Need-mul-e Inv-loop μ-loop
-mul-e c = search needs
-
-add-e : tie.Need-add-e Inv-loop μ-loop
-add-e c = search needs
-
-mul-e-2 : tie.Need-mul-e-2 Inv-loop μ-loop
-mul-e-2 c = search needs
-
-slice-read-e : tie.Need-slice-read-e Inv-loop μ-loop
-slice-read-e c = search needs
+end-at-requires : tie.Need-end-at-requires Inv-loop μ-loop
+end-at-requires c κs = search needs
 
 put-last-requires : tie.Need-put-last-requires Inv-loop μ-loop
-put-last-requires c κs = let l = c .before .before .before .before .loop in let a = c .before .before .before .before .before .before .args in (omega arith, (l .inv .whole, pass-low (a .list .now) (l .list) (a .n) (l .m) (l .k) (c .before .before .before .loop-test .taken) (l .inv)))
+put-last-requires c κs = let d = c .before in (omega arith, (head d .loop .inv .whole, low d))
 
 add-k : tie.Need-add-k Inv-loop μ-loop
 add-k c = search needs
@@ -50,7 +77,11 @@ loop-less : tie.Need-loop-less Inv-loop μ-loop
 loop-less c = search needs
 
 loop-again : tie.Need-loop-again Inv-loop μ-loop
-loop-again c = let l = c .before .before .before .before .before .before .before .loop in let a = c .before .before .before .before .before .before .before .before .before .args in pass-step (a .list .now) (l .list) _ (a .n) (l .m) (l .k) _ (omega arith) (c .before .before .before .before .before .before .before .before .before .pre .1) (c .before .before .before .before .before .before .loop-test .taken) (l .inv) (c .before .before .put-last .ensures .0) (c .before .before .put-last .ensures .1)
+loop-again c =
+    let p = c .before .before in
+    let d = p .before .before in
+    let w = merged p in
+    pass-step (xs d) (l d) _ (n d) (m d) (k d) _ (omega arith) (start d .pre .1) (d .before .before .before .before .loop-test .taken) (head d .loop .inv) (w .0) (w .1)
 
 tidy-requires : tie.Need-tidy-requires Inv-loop μ-loop
 tidy-requires c κs = search needs
@@ -59,16 +90,19 @@ same-length : tie.Need-same-length Inv-loop μ-loop
 same-length c = search needs
 
 returns : tie.Need-returns Inv-loop μ-loop
-returns c = let l = c .before .before .before .before .before .loop in let a = c .before .before .before .before .before .before .before .args in
-    let xs = a .list .now in
-    let i = l .inv .going in
-    let u = i .few in
-    let e : l .k ≡ a .n = omega arith in
-    let g : Going xs (l .list) (a .n) (l .m) (a .n) = rw e at i in
+returns c =
+    let h = c .before .before .before .before .before in
+    let o = h .loop in
+    let a = h .before .before .args in
+    let u = o .inv .going .few in
+    let e : o .k ≡ a .n = omega arith in
+    let g : MergedSoFar (a .list .now) (o .list) (a .n) (o .m) (a .n) = rw e at (o .inv .going) in
     let s = g .same in
     let v = g .less in
-    let r = length-counted (l .list) (l .m) (omega arith) in
-    (sym r ∙ ap length (whole xs (l .list) (a .n) (l .m) (omega arith) g), finish xs (l .list) _ (a .n) (l .m) (omega arith) g (c .before .before .tidy .ensures))
+    let r = length-counted (o .list) (o .m) (omega arith) in (
+      sym r ∙ ap length (whole (a .list .now) (o .list) (a .n) (o .m) (omega arith) g),
+      finish (a .list .now) (o .list) _ (a .n) (o .m) (omega arith) g (c .before .before .tidy .ensures),
+    )
 
 pub merge-ascending-spec : {M : Type 1} → statement M
 merge-ascending-spec =
@@ -77,13 +111,8 @@ merge-ascending-spec =
     Inv-loop
     μ-loop
     loop-holds
-    mul-s
-    mul-s-2
-    slice-read-s
-    mul-e
-    add-e
-    mul-e-2
-    slice-read-e
+    start-at-requires
+    end-at-requires
     put-last-requires
     add-k
     loop-less

@@ -1,89 +1,98 @@
--- `lost_segments::coalesce::put_last` meets its contract.
-use mathlib.Core.Logic.{⊎-elim}
-use lib.ListN.{length-set}
-use Rattle.lost_segments.proofs.coalesce.Last.{put-none, put-within, put-longer, put-behind}
+-- `put_last` meets its contract: (s, e) is dropped, joins the last range, or goes behind it.
 use native.Mathlib.Omega.{arith}
-use Prim.Native.Nat.{ℕ, suc, _+_, _*_, _-_, _<_}
-use mathlib.Core.Path.{_≡_}
-use lib.ListN.{getD}
+use Prim.Native.Nat.{ℕ, suc, _-_, _<_}
+use mathlib.Core.Path.{_≡_, _∙_}
+use mathlib.Core.List.{List}
+use mathlib.Core.Logic.{⊎-elim}
 use borrow.Author.Needs.{needs}
+use Rattle.ranges.specs.Store.{endAt}
+use Rattle.lost_segments.proofs.coalesce.JoinLast.{put-none, put-within, put-longer, put-behind}
 use Rattle.lost_segments.proofs.coalesce.put_last.Statement.{statement}
 use Rattle.lost_segments.proofs.coalesce.put_last.Tie as tie
 
+-- what the call begins with, where the pair is not empty
+abbrev start : tie.Else1 → tie.Start
+start b = b .before .before
+
+abbrev xs : tie.Else1 → List ℕ
+xs b = start b .args .list .now
+
+abbrev m : tie.Else1 → ℕ
+m b = start b .args .m
+
+abbrev s : tie.Else1 → ℕ
+s b = start b .args .s
+
+abbrev e : tie.Else1 → ℕ
+e b = start b .args .e
+
+-- the end of the last range
+abbrev from : tie.After-end-at → tie.Else1
+from c = c .before .before .before
+
+ends : (c : tie.After-end-at) → c .end-at .result ≡ endAt (xs (from c)) (m (from c) - 1)
+ends c = c .end-at .ensures
+
+-- where (s, e) goes behind: the last range, if there is one, ends below s
+below : (c : tie.Joined2) → (p : ℕ) → m (c .before) ≡ suc p → endAt (xs (c .before)) p < s (c .before)
+below c =
+    ⊎-elim
+    (λ w p h. let f : p ≡ m (c .before) - 1 = omega arith in rw f (omega (arith, w .2 .ensures, w .3 .left)))
+    (λ w p h. absurd (omega arith))
+    (c .if2 .came)
+
 returns : tie.Need-returns
-returns c = let q = c .before .pre in let a = c .before .args in let xs = a .list .now in put-none xs (a .m) (a .s) (a .e) (omega arith) (c .if1 .taken)
+returns c = let a = c .before .before .args in put-none (a .list .now) (a .m) (a .s) (a .e) (omega arith) (c .if1 .taken)
 
 sub-l : tie.Need-sub-l
 sub-l c = search needs
 
-mul-h : tie.Need-mul-h
-mul-h c = search needs
+end-at-requires : tie.Need-end-at-requires
+end-at-requires c κs = search needs
 
-add-h : tie.Need-add-h
-add-h c = search needs
-
-mul-h-2 : tie.Need-mul-h-2
-mul-h-2 c = search needs
-
-slice-read-h : tie.Need-slice-read-h
-slice-read-h c = search needs
-
-mul-list : tie.Need-mul-list
-mul-list c = search needs
-
-add-list : tie.Need-add-list
-add-list c = search needs
-
-mul-list-2 : tie.Need-mul-list-2
-mul-list-2 c = search needs
-
-slice-write-list : tie.Need-slice-write-list
-slice-write-list c = search needs
+put-end-requires : tie.Need-put-end-requires
+put-end-requires c κs = search needs
 
 same-length : tie.Need-same-length
 same-length c = search needs
 
 returns-2 : tie.Need-returns-2
-returns-2 c = let q = c .before .before .before .before .before .pre in let a = c .before .before .before .before .before .args in let xs = a .list .now in put-longer xs (a .m) (a .m - 1) (a .s) (a .e) (omega arith) (omega arith) (c .before .before .before .before .if1 .left) (q .1 .0) (q .1 .1) (c .before .if3 .taken) (c .if4 .taken)
-
-returns-3 : tie.Need-returns-3
-returns-3 c = let q = c .before .before .before .before .before .pre in let a = c .before .before .before .before .before .args in let xs = a .list .now in put-within xs (a .m) (a .m - 1) (a .s) (a .e) (omega arith) (omega arith) (c .before .before .before .before .if1 .left) (q .1 .0) (q .1 .1) (c .before .if3 .taken) (c .if4 .left)
-
-mul-list-3 : tie.Need-mul-list-3
-mul-list-3 c = search needs
-
-mul-list-4 : tie.Need-mul-list-4
-mul-list-4 c = search needs
-
-slice-write-list-2 : tie.Need-slice-write-list-2
-slice-write-list-2 c = search needs
-
-mul-list-5 : tie.Need-mul-list-5
-mul-list-5 c = search needs
-
-add-list-2 : tie.Need-add-list-2
-add-list-2 c = search needs
-
-mul-list-6 : tie.Need-mul-list-6
-mul-list-6 c = search needs
-
-slice-write-list-3 : tie.Need-slice-write-list-3
-slice-write-list-3 c = simp length-set (omega arith)
-
-add-result : tie.Need-add-result
-add-result c = search needs
+returns-2 c =
+    let d = c .before .before .before .before in
+    let g = d .before .before in
+    let b = from g in
+    let q = start b .pre in
+    let w = put-longer (xs b) (m b) (m b - 1) (s b) (e b) (omega arith) (omega arith) (b .if1 .left) (q .1 .0) (q .1 .1)
+    (omega (arith, ends g, d .before .if3 .taken)) (omega (arith, ends g, d .if4 .taken)) in
+    (w .0, c .before .before .put-end .ensures ∙ w .1)
 
 same-length-2 : tie.Need-same-length-2
 same-length-2 c = search needs
 
+returns-3 : tie.Need-returns-3
+returns-3 c =
+    let g = c .before .before in
+    let b = from g in
+    let q = start b .pre in
+    put-within (xs b) (m b) (m b - 1) (s b) (e b) (omega arith) (omega arith) (b .if1 .left) (q .1 .0) (q .1 .1)
+    (omega (arith, ends g, c .before .if3 .taken)) (omega (arith, ends g, c .if4 .left))
+
+put-pair-requires : tie.Need-put-pair-requires
+put-pair-requires c κs = search needs
+
+add-result : tie.Need-add-result
+add-result c = search needs
+
+same-length-3 : tie.Need-same-length-3
+same-length-3 c = search needs
+
 returns-4 : tie.Need-returns-4
-returns-4 c = let q = c .before .before .pre in let a = c .before .before .args in let xs = a .list .now in
-    let u : (p : ℕ) → a .m ≡ suc p → getD xs (2 * p + 1) 0 < a .s =
-    ⊎-elim
-    (λ w p e. let f : p ≡ a .m - 1 = omega arith in rw f (w .2 .left))
-    (λ w p e. absurd (omega arith))
-    (c .if2 .came) in
-    put-behind xs (a .m) (a .s) (a .e) (omega arith) (c .before .if1 .left) (q .1 .0) (q .1 .1) u
+returns-4 c =
+    let d = c .before .before .before .before in
+    let b = d .before in
+    let q = start b .pre in
+    let w = put-behind (xs b) (m b) (s b) (e b) (omega arith) (b .if1 .left) (q .1 .0) (q .1 .1) (below d) in
+    (w .0, c .before .before .put-pair .ensures ∙ w .1)
 
 pub put-last-spec : {M : Type 1} → statement M
 put-last-spec =
@@ -91,24 +100,13 @@ put-last-spec =
     (tie.spec
     returns
     sub-l
-    mul-h
-    add-h
-    mul-h-2
-    slice-read-h
-    mul-list
-    add-list
-    mul-list-2
-    slice-write-list
+    end-at-requires
+    put-end-requires
     same-length
     returns-2
-    returns-3
-    mul-list-3
-    mul-list-4
-    slice-write-list-2
-    mul-list-5
-    add-list-2
-    mul-list-6
-    slice-write-list-3
-    add-result
     same-length-2
+    returns-3
+    put-pair-requires
+    add-result
+    same-length-3
     returns-4)

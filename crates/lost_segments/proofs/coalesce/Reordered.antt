@@ -15,7 +15,8 @@ use Rattle.lost_segments.specs.Coalesce.{maximalRuns}
 use Rattle.lost_segments.proofs.coalesce.Meaning.{runs-coalesced, runs-covers}
 use Rattle.pair_sort.specs.Sorted.{pair, Shuffled}
 
-moved : (x : ℕ) (xs ys : List ℕ) (n : ℕ) → 2 * n ≤ length xs → 2 * n ≤ length ys → ((i : ℕ) → i < n → (j : ℕ) × (j < n) × (pair xs i ≡ pair ys j)) → Covers x (counted xs n) → Covers x (counted ys n)
+moved : (x : ℕ) (xs ys : List ℕ) (n : ℕ) → 2 * n ≤ length xs → 2 * n ≤ length ys → ((i : ℕ) → i < n → (j : ℕ) × (j < n) × (pair xs i ≡ pair ys j))
+    → Covers x (counted xs n) → Covers x (counted ys n)
 moved x xs ys n h k f g =
     let w = covers-at x (counted xs n) g in
     let a = length-counted xs n h in
@@ -54,6 +55,6 @@ same-rest xs ys n s =
     ext-getD 0 (drop (2 * n) ys) (drop (2 * n) xs) (omega arith)
     (λ i u. getD-drop (2 * n) ys i 0 ∙ past-at xs ys n (2 * n + i) s (omega arith) ∙ sym (getD-drop (2 * n) xs i 0))
 
-pub anew : (xs ys : List ℕ) (n : ℕ) → 2 * n ≤ length xs → Shuffled xs ys n → stored (maximalRuns (counted ys n)) n ys ≡ stored (maximalRuns (counted xs n)) n xs
+pub same-stored : (xs ys : List ℕ) (n : ℕ) → 2 * n ≤ length xs → Shuffled xs ys n → stored (maximalRuns (counted ys n)) n ys ≡ stored (maximalRuns (counted xs n)) n xs
 unfolding stored
-anew xs ys n h s = rw (same-runs xs ys n h s, same-rest xs ys n s)
+same-stored xs ys n h s = rw (same-runs xs ys n h s, same-rest xs ys n s)

@@ -1,4 +1,4 @@
--- The loop of `merge_ascending`.
+-- What `merge_ascending` has merged so far: the first k pairs, coalesced.
 use mathlib.Core.Path.{_≡_, refl, sym, ap, _∙_}
 use mathlib.Core.List.{List, append-assoc}
 use Prim.Native.Nat.{ℕ, _+_, _*_, _-_, _≤_, _<_}
@@ -12,25 +12,27 @@ use Rattle.ranges.proofs.Flat.{at, scan₂, length-counted, drop-counted}
 use Rattle.ranges.proofs.Flat.{flat-counted}
 use Rattle.ranges.proofs.Stored.{counted-stored, stored-shrunk, length-stored, drop-stored}
 use Rattle.ranges.specs.Inner.Moves.{over}
-use Rattle.lost_segments.specs.Coalesce.{join, gather, maximalRuns}
-use Rattle.lost_segments.proofs.coalesce.Shape.{join-length}
+use Rattle.ranges.specs.Insert.{join}
+use Rattle.ranges.proofs.Insert.{join-length}
+use Rattle.lost_segments.specs.Coalesce.{gather, maximalRuns}
 
 -- xs is the list at entry, l at the loop's head; the first m counted of l are those of the first k of xs, coalesced
-pub record Going (xs l : List ℕ) (n m k : ℕ) : Type 0 where
+pub record MergedSoFar (xs l : List ℕ) (n m k : ℕ) : Type 0 where
   pub few : k ≤ n
   pub less : m ≤ k
   pub same : length l ≡ length xs
   pub ans : gather (counted l m) (drop k (counted xs n)) ≡ maximalRuns (counted xs n)
   pub rest : drop (2 * k) l ≡ drop (2 * k) xs
 
-pub begin : (xs : List ℕ) (n : ℕ) → Going xs xs n 0 0
+pub begin : (xs : List ℕ) (n : ℕ) → MergedSoFar xs xs n 0 0
 unfolding maximalRuns
 begin xs n = record { few = omega arith; less = omega arith; same = refl; ans = refl; rest = refl }
 
 pub beyond : (p i : ℕ) (l xs : List ℕ) → drop p l ≡ drop p xs → getD l (p + i) 0 ≡ getD xs (p + i) 0
 beyond p i l xs e = sym (getD-drop p l i 0) ∙ ap (λ (u : List ℕ). getD u i 0) e ∙ getD-drop p xs i 0
 
-pub step : (xs l l′ : List ℕ) (n m k m′ : ℕ) → 2 * n ≤ length xs → k < n → Going xs l n m k → m′ ≡ length (join (at l k) (counted l m)) → l′ ≡ stored (join (at l k) (counted l m)) m l → Going xs l′ n m′ (k + 1)
+pub step : (xs l l′ : List ℕ) (n m k m′ : ℕ) → 2 * n ≤ length xs → k < n → MergedSoFar xs l n m k → m′ ≡ length (join (at l k) (counted l m))
+    → l′ ≡ stored (join (at l k) (counted l m)) m l → MergedSoFar xs l′ n m′ (k + 1)
 step xs l l′ n m k m′ h u g a b =
     let s = g .same in
     let lm = g .less in
@@ -49,10 +51,11 @@ step xs l l′ n m k m′ h u g a b =
       rest = rw b (drop-stored (2 * (k + 1)) qs m l (omega arith) (omega arith) ∙ rw p (sym (drop-drop 2 (2 * k) l) ∙ ap (drop 2) (g .rest) ∙ drop-drop 2 (2 * k) xs));
     }
 
-pub whole : (xs l : List ℕ) (n m : ℕ) → 2 * n ≤ length xs → Going xs l n m n → counted l m ≡ maximalRuns (counted xs n)
+pub whole : (xs l : List ℕ) (n m : ℕ) → 2 * n ≤ length xs → MergedSoFar xs l n m n → counted l m ≡ maximalRuns (counted xs n)
 whole xs l n m h g = rw (drop-counted xs n h) at (g .ans)
 
-pub finish : (xs l l′ : List ℕ) (n m : ℕ) → 2 * n ≤ length xs → Going xs l n m n → l′ ≡ over l (2 * m) (2 * n - 2 * m) (replicate (2 * n - 2 * m) 0) → l′ ≡ stored (maximalRuns (counted xs n)) n xs
+pub finish : (xs l l′ : List ℕ) (n m : ℕ) → 2 * n ≤ length xs → MergedSoFar xs l n m n
+    → l′ ≡ over l (2 * m) (2 * n - 2 * m) (replicate (2 * n - 2 * m) 0) → l′ ≡ stored (maximalRuns (counted xs n)) n xs
 unfolding over
 finish xs l l′ n m h g e =
     let s = g .same in

@@ -15,8 +15,8 @@ use Rattle.ranges.proofs.Flat.{at, length-counted, getD-counted, counted-last}
 use Rattle.ranges.proofs.Flat.{flat-append, flat-counted}
 use Rattle.ranges.proofs.Stored.{stored-grown, stored-push, stored-same, stored-last}
 use Rattle.ranges.proofs.Flat.{take-counted}
-use Rattle.lost_segments.specs.Coalesce.{joined, absorb, insert, join}
-use Rattle.lost_segments.proofs.coalesce.Shape.{kept}
+use Rattle.ranges.specs.Insert.{joined, absorb, insert, join}
+use Rattle.ranges.proofs.Insert.{join-none, insert-over, insert-behind}
 use Rattle.lost_segments.specs.Inner.{Low}
 
 -- the laws of `Low`
@@ -51,28 +51,12 @@ last-low : (s : ℕ) (ps : List Range) (q : Range) → Low s (ps ++ (q ∷ [])) 
 last-low s [] q l = l .0
 last-low s (p ∷ ps) q l = last-low s ps q (l .1)
 
-last-above : (d : ℕ) (ps : List Range) (q : Range) → Above d (ps ++ (q ∷ [])) → d ≤ q .start
-last-above d [] q a = a .0
-last-above d (p ∷ ps) q a = let i = last-above (suc (p .end)) ps q (a .2) in omega arith
-
--- `insert` at the last
-insert-over : (d : ℕ) (ps : List Range) (q r : Range) → Above d (ps ++ (q ∷ [])) → q .start ≤ r .start → r .start < r .end → r .start ≤ q .end → insert r (ps ++ (q ∷ [])) ≡ ps ++ (joined q r ∷ [])
-insert-over d [] q r a h k u = rw (le-ltb (q .end) (r .start) u, le-ltb (r .end) (q .start) (omega arith))
-insert-over d (p ∷ ps) q r a h k u =
-    let l = last-above (suc (p .end)) ps q (a .2) in
-    rw (lt-ltb (p .end) (r .start) (omega arith)) (ap (λ (l : List Range). p ∷ l) (insert-over (suc (p .end)) ps q r (a .2) h k u))
-
-insert-behind : (d : ℕ) (ps : List Range) (q r : Range) → Above d (ps ++ (q ∷ [])) → q .start ≤ r .start → q .end < r .start → insert r (ps ++ (q ∷ [])) ≡ (ps ++ (q ∷ [])) ++ (r ∷ [])
-insert-behind d [] q r a h k = rw (lt-ltb (q .end) (r .start) k)
-insert-behind d (p ∷ ps) q r a h k =
-    let l = last-above (suc (p .end)) ps q (a .2) in
-    rw (lt-ltb (p .end) (r .start) (omega arith)) (ap (λ (l : List Range). p ∷ l) (insert-behind (suc (p .end)) ps q r (a .2) h k))
-
 same-pair : {a b c d : ℕ} → a ≡ b → c ≡ d → range a c ≡ range b d
 same-pair p q = ap₂ range p q
 
 -- what `put_last` finds
-pub over-last : (xs : List ℕ) (m p s e : ℕ) → m ≡ suc p → 2 * m ≤ length xs → s < e → Coalesced (counted xs m) → Low s (counted xs m) → s ≤ getD xs (2 * p + 1) 0
+pub over-last : (xs : List ℕ) (m p s e : ℕ) → m ≡ suc p → 2 * m ≤ length xs → s < e → Coalesced (counted xs m) → Low s (counted xs m)
+    → s ≤ getD xs (2 * p + 1) 0
     → join (range s e) (counted xs m) ≡ counted xs p ++ (range (getD xs (2 * p) 0) (max (getD xs (2 * p + 1) 0) e) ∷ [])
 over-last xs m p s e mp h se a l u =
     let w = counted-last xs p (omega arith) in
@@ -98,9 +82,10 @@ unchanged : (xs : List ℕ) (m s e : ℕ) → 2 * m ≤ length xs → join (rang
 unchanged xs m s e h j = rw j (sym (length-counted xs m h), sym (stored-same xs m h))
 
 pub put-none : (xs : List ℕ) (m s e : ℕ) → 2 * m ≤ length xs → e ≤ s → Put xs m s e m xs
-put-none xs m s e h k = unchanged xs m s e h (kept s e (counted xs m) k)
+put-none xs m s e h k = unchanged xs m s e h (join-none s e (counted xs m) k)
 
-pub put-within : (xs : List ℕ) (m p s e : ℕ) → m ≡ suc p → 2 * m ≤ length xs → s < e → Coalesced (counted xs m) → Low s (counted xs m) → s ≤ getD xs (2 * p + 1) 0 → e ≤ getD xs (2 * p + 1) 0 → Put xs m s e m xs
+pub put-within : (xs : List ℕ) (m p s e : ℕ) → m ≡ suc p → 2 * m ≤ length xs → s < e → Coalesced (counted xs m) → Low s (counted xs m)
+    → s ≤ getD xs (2 * p + 1) 0 → e ≤ getD xs (2 * p + 1) 0 → Put xs m s e m xs
 put-within xs m p s e mp h se a l u v =
     unchanged xs m s e h
     (over-last xs m p s e mp h se a l u
@@ -108,14 +93,17 @@ put-within xs m p s e mp h se a l u v =
     ∙ sym (counted-last xs p (omega arith))
     ∙ ap (counted xs) (sym mp))
 
-pub put-longer : (xs : List ℕ) (m p s e : ℕ) → m ≡ suc p → 2 * m ≤ length xs → s < e → Coalesced (counted xs m) → Low s (counted xs m) → s ≤ getD xs (2 * p + 1) 0 → getD xs (2 * p + 1) 0 < e → Put xs m s e m (set xs (2 * p + 1) e)
+pub put-longer : (xs : List ℕ) (m p s e : ℕ) → m ≡ suc p → 2 * m ≤ length xs → s < e → Coalesced (counted xs m) → Low s (counted xs m)
+    → s ≤ getD xs (2 * p + 1) 0 → getD xs (2 * p + 1) 0 < e → Put xs m s e m (set xs (2 * p + 1) e)
 put-longer xs m p s e mp h se a l u v =
-    let j : join (range s e) (counted xs m) ≡ counted xs p ++ (range (getD xs (2 * p) 0) e ∷ []) = over-last xs m p s e mp h se a l u ∙ ap (λ (r : Range). counted xs p ++ (r ∷ [])) (same-pair refl (omega arith)) in
+    let j : join (range s e) (counted xs m) ≡ counted xs p ++ (range (getD xs (2 * p) 0) e ∷ []) =
+    over-last xs m p s e mp h se a l u ∙ ap (λ (r : Range). counted xs p ++ (r ∷ [])) (same-pair refl (omega arith)) in
     let n = length-counted xs p (omega arith) in
     let k = length-append (counted xs p) (range (getD xs (2 * p) 0) e ∷ []) in
     rw j (omega arith, stored-last xs m p e mp h)
 
-pub put-behind : (xs : List ℕ) (m s e : ℕ) → 2 * m + 2 ≤ length xs → s < e → Coalesced (counted xs m) → Low s (counted xs m) → ((p : ℕ) → m ≡ suc p → getD xs (2 * p + 1) 0 < s) → Put xs m s e (m + 1) (set (set xs (2 * m) s) (2 * m + 1) e)
+pub put-behind : (xs : List ℕ) (m s e : ℕ) → 2 * m + 2 ≤ length xs → s < e → Coalesced (counted xs m) → Low s (counted xs m) → ((p : ℕ) → m ≡ suc p → getD xs (2 * p + 1) 0 < s)
+    → Put xs m s e (m + 1) (set (set xs (2 * m) s) (2 * m + 1) e)
 put-behind xs m s e h se a l u =
     let n = length-counted xs m (omega arith) in
     let k = length-append (counted xs m) (range s e ∷ []) in

@@ -1,0 +1,20 @@
+// Inner: the checks that calls share.
+ghost use mathlib.Core.Path.{_≡_};
+ghost use mathlib.Core.List.{[]};
+ghost use Rattle.outcomes.specs.Outcome.{accepted};
+ghost use Rattle.outcomes.specs.Checks.{firstOf, verdictCase};
+ghost use Rattle.lost_segments.specs.Checks.{storeChecks};
+use crate::Store;
+use outcomes::Refusal;
+use outcomes::Verdict;
+
+// Check 10.
+pub fn store_checks(st: Store, list: &[u64]) -> Verdict
+    ensures { λ r. ⌜ verdictCase r ≡ firstOf (storeChecks (now (list .entry)) st) (accepted []) ⌝ }
+{
+    let width = st.width;
+    if ranges::bad_store(list, st.count, width.limit()) {
+        return Verdict::Refused(Refusal::BadStore);
+    }
+    Verdict::Passed
+}
