@@ -2,6 +2,7 @@
 pub mod events; // events.rt: of the data event and of the metadata event
 pub mod inner; // inner.rt: an answer with so many values
 pub mod pdu; // pdu.rt: of writing one NAK PDU
+pub mod refusal; // refusal.rt: of a refusal, whatever call gives it
 pub mod sequence; // sequence.rt: of the NAK sequence
 pub mod store; // store.rt: of the store's five calls
 
