@@ -1,4 +1,4 @@
-// Of a refusal, whatever call it comes from.
+// Of a refusal, whatever call gives it.
 ghost use mathlib.Core.Path.{_≡_};
 ghost use Rattle.outcomes.specs.Refusal.{refusing};
 ghost use Rattle.c_answers.specs.Answer.{answerOf};

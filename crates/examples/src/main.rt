@@ -9,6 +9,7 @@ use nak::writer::WriteAnswer;
 use nak_parser::Step;
 use nak_sequence::SequenceAnswer;
 use octets::LargeFileFlag;
+use outcomes::Refusal;
 use ranges::Width;
 use reception::Reception;
 
@@ -54,12 +55,14 @@ fn show_write(buf: &mut [u8]) {
     let requests: [u64; 4] = [0, 0, 100, 200];
     let identity = example_identity();
     let answer = nak::writer::write(identity, LargeFileFlag::Normal, 0, 1000, &requests, buf);
-    if let WriteAnswer::BufferSizeMissmatch(needed, given) = answer {
-        write_all(STDOUT_FILENO, b"refused 6");
-        show_number(needed as u64);
-        show_number(given as u64);
-        end_line();
-        return;
+    if let WriteAnswer::Refused(r) = answer {
+        if let Refusal::BufferSizeMissmatch(needed, given) = r {
+            write_all(STDOUT_FILENO, b"refused 6");
+            show_number(needed as u64);
+            show_number(given as u64);
+            end_line();
+            return;
+        }
     }
     show_octets(buf);
 }

@@ -16,7 +16,7 @@ use Rattle.octets.specs.declared.LargeFileFlag.{LargeFileFlag}
 use Rattle.octets.specs.declared.LargeFileFlag.the-variants.{Normal, Large}
 use Rattle.octets.proofs.Fields.{length-field, length-fields}
 use Rattle.nak.specs.declared.Identity.{Identity}
-use Rattle.nak.specs.Pdu.{Nak, headerOctets, identityOctets, dataOctets, dataField, header, pdu, headerLength}
+use Rattle.nak.specs.Pdu.{Nak, headerOctets, identityOctets, dataOctets, dataField, header, pdu, headerLength, pduLength}
 use Rattle.nak.specs.Inner.{asked, pairsFrom, entries}
 use Rattle.nak.proofs.Flat.{flat-pairs}
 
@@ -91,14 +91,9 @@ pub f-high : (g : LargeFileFlag) (m : ℕ) {f : ℕ} → f ≡ fieldLength g →
 f-high Normal m e h = rw e (omega arith)
 f-high Large m e h = rw e (omega arith)
 
--- the length of the PDU of a flat list of requests, as the code sums it up
-pub total-is :
-    (n : Nak) (xs : List ℕ) {f : ℕ}
-    → f ≡ fieldLength (n .flag)
-    → n .requests ≡ pairs xs
-    → length xs % 2 ≡ 0
-    → headerLength (n .identity .«entity_length») (n .identity .«number_length») + (1 + f * (2 + length xs)) ≡ length (pdu n)
-total-is n xs e h k = rw (length-pdu n, length-data (fieldLength (n .flag)) (n .scope) (n .requests), h, flat-pairs xs k, e)
+-- the length of a PDU, by how many numbers its requests have
+pub pdu-length : (n : Nak) → pduLength (n .flag) (n .identity) (length (flat (n .requests))) ≡ length (pdu n)
+pdu-length n = rw (length-pdu n, length-data (fieldLength (n .flag)) (n .scope) (n .requests))
 
 -- the PDU's length by its requests: H + 1 + 2F for the scope, and 2F for each request
 pub length-of-pdu : (n : Nak) → length (pdu n) ≡ headerLength (n .identity .«entity_length») (n .identity .«number_length») + 1 + 2 * fieldLength (n .flag) + 2 * fieldLength (n .flag) * length (n .requests)

@@ -49,6 +49,14 @@ identityOctets d = field (d .«entity_length») (d .source) ++ (field (d .«numb
 abbrev pub headerLength : ℕ → ℕ → ℕ
 headerLength i q = 4 + 2 * i + q
 
+-- The data field of a PDU whose requests have so many numbers is this long: 08, scope start, scope end, the numbers.
+abbrev pub dataLength : ℕ → ℕ → ℕ
+dataLength f numbers = 1 + f * (2 + numbers)
+
+-- And the PDU: the header, then the data field. By `pdu-length` that is the number of its octets.
+abbrev pub pduLength : LargeFileFlag → Identity → ℕ → ℕ
+pduLength g d numbers = headerLength (d .«entity_length») (d .«number_length») + dataLength (fieldLength g) numbers
+
 -- The PDU: header, identity, data field.
 unfoldable pub pdu : Nak → List ℕ
 pdu n = header n ++ (identityOctets (n .identity) ++ dataField n)

@@ -1,23 +1,33 @@
 -- Writing one PDU (document 01, "Writing one PDU").
 use Prim.Native.Nat.{ℕ, _%_}
-use mathlib.Core.Bool.{Bool, _||_, not, cond}
-use mathlib.Core.List.{List, [], _∷_}
+use mathlib.Core.Bool.{Bool, _||_, not}
+use mathlib.Core.List.{List, [], _∷_, _++_}
 use lib.Dec.{eqb, ltb}
 use lib.ListN.{length}
 use Rattle.ranges.specs.Store.{flat, anyAbove}
-use Rattle.outcomes.specs.Named as to
 use Rattle.outcomes.specs.Outcome.{Outcome, accepted, lent}
+use Rattle.outcomes.specs.Refusal.{refusing}
+use Rattle.outcomes.specs.Checks.{Check, firstOf}
+use Rattle.outcomes.specs.declared.Refusal.the-variants as refusal
 use Rattle.octets.specs.Octets.{fits}
 use Rattle.octets.specs.Flag.{largestOf}
 use Rattle.nak.specs.declared.Identity.{Identity}
 use Rattle.nak.specs.declared.writer.WriteAnswer.{WriteAnswer}
-use Rattle.nak.specs.declared.writer.WriteAnswer.the-variants.{Written, EmptySegment, StartLargerThanEnd, BufferSizeMissmatch, LargeSegmentForNormalFileSize, BadStore, BadIdentity, PduSize, ScopeReversed}
+use Rattle.nak.specs.declared.writer.WriteAnswer.the-variants.{Written, Refused}
 use Rattle.nak.specs.Pdu.{Nak, pdu}
-use Rattle.nak.specs.Request.{following, requestsOutcome}
+use Rattle.nak.specs.Request.{requestsChecks}
+
+-- A list of requests has at most 4,096 pairs, so 8,192 numbers.
+abbrev pub largestList : ℕ
+largestList = 8192
+
+-- A PDU has at most 4,096 octets.
+abbrev pub largestPdu : ℕ
+largestPdu = 4096
 
 -- 10: odd flat length, more than 4,096 pairs.
 unfoldable pub isBadList : List ℕ → Bool
-isBadList xs = eqb (length xs % 2) 1 || ltb 8192 (length xs)
+isBadList xs = eqb (length xs % 2) 1 || ltb largestList (length xs)
 
 -- An identifier length outside 1 to 8.
 abbrev pub isBadLength : ℕ → Bool
@@ -30,21 +40,31 @@ isBadIdentity d =
     || (isBadLength (d .«number_length»)
     || (not (fits (d .«entity_length») (d .source)) || (not (fits (d .«number_length») (d .number)) || not (fits (d .«entity_length») (d .destination)))))
 
--- What a NAK may say: 13, 18, each request in order, 7 for scope or request, 14 (total above 4,096).
-unfoldable pub nakOutcome : Nak → Outcome
-nakOutcome n =
-    cond (isBadIdentity (n .identity)) to.badIdentity
-    (cond (ltb (n .scope .end) (n .scope .start)) to.scopeReversed
-    (following (requestsOutcome (n .requests))
-    (cond (anyAbove (largestOf (n .flag)) (n .scope .start ∷ n .scope .end ∷ flat (n .requests))) to.largeSegmentForNormalFileSize
-    (cond (ltb 4096 (length (pdu n))) to.pduSize (accepted [])))))
+-- The numbers of a NAK: those of its scope, and of its requests.
+abbrev pub numbersOf : Nak → List ℕ
+numbersOf n = n .scope .start ∷ n .scope .end ∷ flat (n .requests)
 
--- Writing: 10 for the flat list xs of requests, what a NAK may say, 6 (buffer must be exactly the length); success answers the length.
+-- What a NAK may say: 13, 18, each request in order, 7 for scope or request, 14 (total above 4,096).
+abbrev pub nakChecks : Nak → List Check
+nakChecks n =
+    (isBadIdentity (n .identity), refusal.BadIdentity)
+    ∷ (ltb (n .scope .end) (n .scope .start), refusal.ScopeReversed)
+    ∷ requestsChecks (n .requests)
+    ++ ((anyAbove (largestOf (n .flag)) (numbersOf n), refusal.LargeSegmentForNormalFileSize) ∷ (ltb largestPdu (length (pdu n)), refusal.PduSize) ∷ [])
+
+unfoldable pub nakOutcome : Nak → Outcome
+nakOutcome n = firstOf (nakChecks n) (accepted [])
+
+-- Writing: 10 for the flat list xs of requests, what a NAK may say, 6 (buffer must be exactly the length).
+abbrev pub writeChecks : List ℕ → Nak → ℕ → List Check
+writeChecks xs n given =
+    (isBadList xs, refusal.BadStore)
+    ∷ nakChecks n
+    ++ ((not (eqb given (length (pdu n))), refusal.BufferSizeMissmatch (length (pdu n)) given) ∷ [])
+
+-- Success answers the length.
 unfoldable pub writeOutcome : List ℕ → Nak → ℕ → Outcome
-writeOutcome xs n given =
-    cond (isBadList xs) to.badStore
-    (following (nakOutcome n)
-    (cond (not (eqb given (length (pdu n)))) (to.bufferSizeMissmatch (length (pdu n)) given) (accepted (length (pdu n) ∷ []))))
+writeOutcome xs n given = firstOf (writeChecks xs n given) (accepted (length (pdu n) ∷ []))
 
 -- The lent buffer: the PDU where it is written, and unchanged where it is refused.
 abbrev pub written : List ℕ → Nak → List ℕ → List ℕ
@@ -53,11 +73,4 @@ written xs n buf = lent (writeOutcome xs n (length buf)) (pdu n) buf
 -- The number and values of each case.
 abbrev pub writeCase : WriteAnswer → Outcome
 writeCase (Written n) = accepted (n ∷ [])
-writeCase EmptySegment = to.emptySegment
-writeCase (StartLargerThanEnd start end) = to.startLargerThanEnd start end
-writeCase (BufferSizeMissmatch needed given) = to.bufferSizeMissmatch needed given
-writeCase LargeSegmentForNormalFileSize = to.largeSegmentForNormalFileSize
-writeCase BadStore = to.badStore
-writeCase BadIdentity = to.badIdentity
-writeCase PduSize = to.pduSize
-writeCase ScopeReversed = to.scopeReversed
+writeCase (Refused r) = refusing r

@@ -3,29 +3,26 @@ use crate::Identity;
 use octets::LargeFileFlag;
 use octets::inner::put;
 use octets::inner::put_all;
+use outcomes::Refusal;
+use outcomes::Verdict;
 use ranges::inner::checks::any_above;
 ghost use mathlib.Core.Path.{_≡_};
 ghost use mathlib.Core.Bool.{_&&_, not};
-ghost use mathlib.Core.List.{_∷_};
+ghost use mathlib.Core.List.{[], _∷_};
 ghost use Prim.Native.Nat.{_+_, _*_, _≤_};
 ghost use lib.Dec.{eqb};
 ghost use lib.ListN.{length};
+ghost use Rattle.outcomes.specs.Outcome.{accepted};
+ghost use Rattle.outcomes.specs.Checks.{firstOf, verdictCase};
 ghost use Rattle.ranges.specs.Range.{range};
 ghost use Rattle.ranges.specs.Store.{pairs, flat, anyAbove};
 ghost use Rattle.octets.specs.Octets.{fields, withOctets};
 ghost use Rattle.octets.specs.Flag.{fieldLength};
 ghost use Rattle.nak.specs.Header.{flagBit};
-ghost use Rattle.nak.specs.Pdu.{saying, headerOctets, identityOctets, dataOctets, headerLength, pdu};
-ghost use Rattle.nak.specs.Request.{isMetadata, requestsCase, requestsOutcome};
+ghost use Rattle.nak.specs.Pdu.{saying, headerOctets, identityOctets, dataOctets, headerLength, pduLength, pdu};
+ghost use Rattle.nak.specs.Request.{isMetadata, requestsChecks};
 ghost use Rattle.nak.specs.Inner.{asked, entries, GoodLengths};
-ghost use Rattle.nak.specs.Writer.{isBadList, isBadIdentity, isBadLength};
-
-// What a list of requests is answered.
-pub enum RequestsAnswer {
-    Fine,
-    EmptySegment,
-    StartLargerThanEnd(u64, u64),
-}
+ghost use Rattle.nak.specs.Writer.{largestList, isBadList, isBadIdentity, isBadLength};
 
 fn wide(x: usize) -> u64
     ensures { λ r. ⌜ r ≡ x ⌝ }
@@ -47,8 +44,8 @@ pub fn is_empty(i: usize, s: u64, e: u64) -> bool
 }
 
 // Each request of a flat list in order.
-pub fn check_requests(requests: &[u64]) -> RequestsAnswer
-    ensures { λ r. ⌜ requestsCase r ≡ requestsOutcome (pairs (now (requests .entry))) ⌝ }
+pub fn check_requests(requests: &[u64]) -> Verdict
+    ensures { λ r. ⌜ verdictCase r ≡ firstOf (requestsChecks (pairs (now (requests .entry)))) (accepted []) ⌝ }
 {
     let count = requests.len() / 2;
     let mut i = 0;
@@ -56,14 +53,14 @@ pub fn check_requests(requests: &[u64]) -> RequestsAnswer
         let s = requests[2 * i];
         let e = requests[2 * i + 1];
         if e < s {
-            return RequestsAnswer::StartLargerThanEnd(s, e);
+            return Verdict::Refused(Refusal::StartLargerThanEnd(s, e));
         }
         if is_empty(i, s, e) {
-            return RequestsAnswer::EmptySegment;
+            return Verdict::Refused(Refusal::EmptySegment);
         }
         i += 1;
     }
-    RequestsAnswer::Fine
+    Verdict::Passed
 }
 
 // Whether the scope or a number of the list is above top.
@@ -122,6 +119,23 @@ fn flag_bit(flag: LargeFileFlag) -> u64
         LargeFileFlag::Normal => 0,
         LargeFileFlag::Large => 1,
     }
+}
+
+// H, by the identifier lengths.
+pub fn header_length(i: usize, q: usize) -> usize
+    requires { ⌜ (i ≤ 8) × (q ≤ 8) ⌝ }
+    ensures { λ r. ⌜ r ≡ headerLength i q ⌝ }
+{
+    4 + 2 * i + q
+}
+
+// The length of a PDU whose requests have so many numbers.
+pub fn pdu_length(identity: Identity, flag: LargeFileFlag, numbers: usize) -> usize
+    requires { ⌜ GoodLengths identity × (numbers ≤ largestList) ⌝ }
+    ensures { λ r. ⌜ r ≡ pduLength flag identity numbers ⌝ }
+{
+    let h = header_length(identity.entity_length, identity.number_length);
+    h + (1 + flag.field_length() * (2 + numbers))
 }
 
 // The header's first four octets.

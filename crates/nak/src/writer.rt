@@ -1,26 +1,59 @@
 // Writing one PDU.
 use crate::Identity;
 use crate::inner;
-use crate::inner::RequestsAnswer;
 use octets::LargeFileFlag;
+use outcomes::Refusal;
+use outcomes::Verdict;
 ghost use mathlib.Core.Path.{_≡_};
+ghost use mathlib.Core.List.{[]};
 ghost use lib.ListN.{length};
 ghost use Rattle.ranges.specs.Store.{pairs};
+ghost use Rattle.outcomes.specs.Outcome.{accepted};
+ghost use Rattle.outcomes.specs.Checks.{firstOf, verdictCase};
 ghost use Rattle.nak.specs.Pdu.{saying};
-ghost use Rattle.nak.specs.Writer.{writeCase, writeOutcome, written};
+ghost use Rattle.nak.specs.Writer.{writeCase, writeChecks, writeOutcome, written};
 
 pub enum WriteAnswer {
     // The PDU's length.
     Written(usize),
-    EmptySegment,
-    StartLargerThanEnd(u64, u64),
-    // Needed, given.
-    BufferSizeMissmatch(usize, usize),
-    LargeSegmentForNormalFileSize,
-    BadStore,
-    BadIdentity,
-    PduSize,
-    ScopeReversed,
+    Refused(Refusal),
+}
+
+// The checks of writing into a buffer of `given` octets.
+pub fn write_checks(
+    identity: Identity,
+    flag: LargeFileFlag,
+    start: u64,
+    end: u64,
+    requests: &[u64],
+    given: usize,
+) -> Verdict
+    ensures { λ r. ⌜ verdictCase r ≡ firstOf (writeChecks (now (requests .entry)) (saying flag identity start end (pairs (now (requests .entry)))) given) (accepted []) ⌝ }
+{
+    if inner::bad_list(requests) {
+        return Verdict::Refused(Refusal::BadStore);
+    }
+    if inner::bad_identity(identity) {
+        return Verdict::Refused(Refusal::BadIdentity);
+    }
+    if end < start {
+        return Verdict::Refused(Refusal::ScopeReversed);
+    }
+    let found = inner::check_requests(requests);
+    if let Verdict::Refused(r) = found {
+        return Verdict::Refused(r);
+    }
+    if inner::any_number_above(flag.largest(), start, end, requests) {
+        return Verdict::Refused(Refusal::LargeSegmentForNormalFileSize);
+    }
+    let total = inner::pdu_length(identity, flag, requests.len());
+    if 4096 < total {
+        return Verdict::Refused(Refusal::PduSize);
+    }
+    if given != total {
+        return Verdict::Refused(Refusal::BufferSizeMissmatch(total, given));
+    }
+    Verdict::Passed
 }
 
 // Writes the NAK PDU of this identity, flag, scope (start and end) and list of requests, a flat list of pairs read to its end.
@@ -35,39 +68,12 @@ pub fn write(
     ensures { λ r. ⌜ writeCase r ≡ writeOutcome (now (requests .entry)) (saying flag identity start end (pairs (now (requests .entry)))) (length (now (buf .entry))) ⌝ }
     ensures { λ r. ⌜ now (buf .exit) ≡ written (now (requests .entry)) (saying flag identity start end (pairs (now (requests .entry)))) (now (buf .entry)) ⌝ }
 {
-    if inner::bad_list(requests) {
-        return WriteAnswer::BadStore;
-    }
-    if inner::bad_identity(identity) {
-        return WriteAnswer::BadIdentity;
-    }
-    if end < start {
-        return WriteAnswer::ScopeReversed;
-    }
-    let answer = inner::check_requests(requests);
-    match answer {
-        RequestsAnswer::StartLargerThanEnd(s, e) => {
-            return WriteAnswer::StartLargerThanEnd(s, e);
-        }
-        RequestsAnswer::EmptySegment => {
-            return WriteAnswer::EmptySegment;
-        }
-        RequestsAnswer::Fine => {}
-    }
-    if inner::any_number_above(flag.largest(), start, end, requests) {
-        return WriteAnswer::LargeSegmentForNormalFileSize;
-    }
-    let i = identity.entity_length;
-    let q = identity.number_length;
-    let total = 4 + 2 * i + q + (1 + flag.field_length() * (2 + requests.len()));
-    if 4096 < total {
-        return WriteAnswer::PduSize;
-    }
-    if buf.len() != total {
-        return WriteAnswer::BufferSizeMissmatch(total, buf.len());
+    let found = write_checks(identity, flag, start, end, requests, buf.len());
+    if let Verdict::Refused(r) = found {
+        return WriteAnswer::Refused(r);
     }
     let count = requests.len() / 2;
-    inner::write_at(
+    let octets = inner::write_at(
         buf,
         0,
         identity,
@@ -79,5 +85,5 @@ pub fn write(
         0,
         count,
     );
-    WriteAnswer::Written(total)
+    WriteAnswer::Written(octets)
 }

@@ -1,6 +1,6 @@
 -- Reading a PDU: each field that was written comes back.
 use mathlib.Core.Path.{_≡_, refl, sym, ap, _∙_}
-use mathlib.Core.Bool.{false}
+use mathlib.Core.Bool.{false, not}
 use mathlib.Core.List.{List, [], _∷_, _++_, append-assoc}
 use Prim.Native.Nat.{ℕ, _+_, _*_, _-_, _/_, _%_, _^_, _≤_, _<_}
 use native.Mathlib.Omega.{arith}
@@ -8,6 +8,7 @@ use lib.Dec.{ltb}
 use lib.ListN.{length, getD, drop, length-append}
 use lib.Seq.{take-at, drop-at, getD-at}
 use borrow.Author.Tests.{ltb-false, le-ltb, eq-eqb, ne-eqb}
+use Rattle.ranges.proofs.Test.{or-false}
 use Rattle.ranges.proofs.Flat.{length-flat}
 use Rattle.ranges.specs.Range.{Range}
 use Rattle.ranges.specs.Store.{flat, anyAbove}
@@ -22,9 +23,9 @@ use Rattle.nak.specs.Header.{wrongFixed, octet0, octet3, flagOf}
 use Rattle.nak.specs.Pdu.{Nak, nakCode, headerOctets, identityOctets, dataOctets, header, dataField, pdu}
 use Rattle.nak.specs.Inner.{GoodLengths}
 use Rattle.nak.proofs.Parts.{length-header, length-data, length-pdu}
-use Rattle.nak.proofs.Checks.{neither, good-lengths, GoodNumbers, good-numbers, NakFine}
-use Rattle.nak_parser.specs.Parser.{octetAt, fieldAt, flagIn, fieldLengthIn, entityLengthIn, numberLengthIn, headerLengthIn, lengthField, scopeAt, requestsAt, requestsIn, identityIn, scopeIn, requestsOf, nakIn, wrongLength, wrongData, shapeOutcome, readOutcome}
-use Rattle.nak_parser.proofs.Reading.{header-is, shape-fine, read-fine}
+use Rattle.nak.proofs.Checks.{good-lengths, GoodNumbers, good-numbers, NakFine}
+use Rattle.nak_parser.specs.Parser.{octetAt, fieldAt, flagIn, fieldLengthIn, entityLengthIn, numberLengthIn, headerLengthIn, lengthField, scopeAt, requestsAt, requestsIn, identityIn, scopeIn, requestsOf, nakIn, wrongLength, wrongData, readOutcome}
+use Rattle.nak_parser.proofs.Reading.{header-is, Shape, shape-of, read-fine}
 
 -- the number of a field that stands behind x
 pub field-back : {p : List ℕ} (x z : List ℕ) (at f v : ℕ) → p ≡ x ++ (field f v ++ z) → length x ≡ at → v < 256 ^ f → fieldAt p at f ≡ v
@@ -37,7 +38,7 @@ rest-back x z at e l = rw (e, drop-at x z at l)
 -- numbers that are not above the flag's largest fit its field
 pub below-top : (g : LargeFileFlag) (v : ℕ) (vs : List ℕ) → anyAbove (largestOf g) (v ∷ vs) ≡ false → (v < 256 ^ fieldLength g) × (anyAbove (largestOf g) vs ≡ false)
 below-top g v vs e =
-    let t = neither (ltb (largestOf g) v) (anyAbove (largestOf g) vs) e in
+    let t = or-false (ltb (largestOf g) v) (anyAbove (largestOf g) vs) e in
     (largest-fits g v (ltb-false (largestOf g) v (t .0)), t .1)
 
 -- the requests come back from their octets
@@ -252,8 +253,11 @@ module _ (n : Nak) (fine : NakFine n) where
   unfolding wrongData
   right-data-back = rw (length-field-back, data-length, field-length-back, le-ltb _ _ (room-is (n .flag) (length (n .requests))), whole-is (n .flag) (length (n .requests)))
 
-  pub shape-back : shapeOutcome (pdu n) ≡ accepted []
-  shape-back = shape-fine (pdu n) (let l = length-pdu n in omega arith) fixed-back right-length-back code-back right-data-back
+  pub shape-back : Shape (pdu n)
+  shape-back =
+      let enough = le-ltb (length (pdu n)) 4 (let l = length-pdu n in omega arith) in
+      let code = ap not (eq-eqb (octetAt (pdu n) (headerLengthIn (pdu n))) nakCode code-back) in
+      shape-of (pdu n) (enough, (fixed-back, (right-length-back, (code, (right-data-back, tt)))))
 
   -- every PDU of fields within the limits is accepted
   pub read-back : readOutcome (pdu n) ≡ accepted []

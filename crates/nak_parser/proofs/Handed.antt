@@ -1,25 +1,73 @@
 -- What is handed back of a packet, accepted or refused; the places of its requests.
-use mathlib.Core.Path.{_≡_, refl}
+use mathlib.Core.Path.{_≡_, refl, ap}
 use mathlib.Core.Bool.{Bool, true, false}
 use mathlib.Core.List.{List, []}
 use Prim.Native.Nat.{ℕ, _*_, _-_, _≤_, _<_}
 use native.Mathlib.Omega.{arith}
 use lib.Dec.{eqb}
-use lib.ListN.{length, getD, take, drop, length-drop}
+use lib.ListN.{length, take, drop, length-drop}
 use lib.Seq.{take-all}
 use borrow.Author.Tests.{eqb-true, eqb-false, ne-eqb, le-ltb, lt-ltb}
 use Rattle.outcomes.specs.Outcome.{accepted, lent}
-use Rattle.nak_parser.specs.Parser.{fieldLengthIn, scopeAt, requestsAt, readOutcome, acceptedParsed, refusedParsed, parsedOf, requestsPart}
+use Rattle.ranges.specs.Range.{Range, range}
+use Rattle.octets.specs.declared.LargeFileFlag.{LargeFileFlag}
+use Rattle.nak.specs.declared.Identity.{Identity}
+use Rattle.nak_parser.specs.declared.Parsed.{Parsed}
+use Rattle.outcomes.specs.Named.{lengthMismatch}
+use Rattle.outcomes.specs.Refusal.{refusing}
+use Rattle.outcomes.specs.declared.Refusal.{Refusal}
+use Rattle.outcomes.proofs.Refusals.{refuses}
+use Rattle.nak_parser.specs.Parser.{flagIn, fieldLengthIn, identityIn, scopeIn, scopeAt, requestsAt, readOutcome, acceptedParsed, refusedParsed, parsedOf, requestsPart}
 use Rattle.nak_parser.specs.Step.{atEnd}
 use Rattle.nak_parser.proofs.Reading.{Read, read-of}
+
+-- an accepted packet of this identity, flag and scope, its requests from here to there
+abbrev pub parsedWith : Identity → LargeFileFlag → Range → ℕ → ℕ → Parsed
+parsedWith d g s from to =
+    record {
+      refusal = 0;
+      start = 0;
+      end = 0;
+      identity = d;
+      flag = g;
+      «scope_start» = s .start;
+      «scope_end» = s .end;
+      from = from;
+      to = to;
+      next = from;
+    }
 
 pub parsed-accepted : (p : List ℕ) → readOutcome p ≡ accepted [] → parsedOf p ≡ acceptedParsed p
 unfolding parsedOf
 parsed-accepted p e = rw e
 
-pub parsed-refused : (p : List ℕ) → (readOutcome p .number ≡ 0 → ⊥) → parsedOf p ≡ refusedParsed (readOutcome p .number) (getD (readOutcome p .values) 0 0) (getD (readOutcome p .values) 1 0) (length p)
+pub parsed-refused : (p : List ℕ) → (readOutcome p .number ≡ 0 → ⊥) → parsedOf p ≡ refusedParsed (readOutcome p) (length p)
 unfolding parsedOf
 parsed-refused p h = rw (ne-eqb (readOutcome p .number) 0 h)
+
+-- by the refusal
+pub parsed-by : (p : List ℕ) (r : Refusal) → refusing r ≡ readOutcome p → refusedParsed (refusing r) (length p) ≡ parsedOf p
+unfolding parsedOf
+parsed-by p r e = rw (← e, refuses r)
+
+-- of a packet below four octets
+pub short : (p : List ℕ) → length p < 4 → lengthMismatch ≡ readOutcome p
+unfolding readOutcome
+short p h = rw (lt-ltb (length p) 4 h)
+
+-- the values that the code finds are those of the definition
+pub is-parsed :
+    (p : List ℕ) {d : Identity} {g : LargeFileFlag} {a b from : ℕ}
+    → d ≡ identityIn p
+    → g ≡ flagIn p
+    → range a b ≡ scopeIn p
+    → from ≡ requestsAt p
+    → parsedWith d g (range a b) from (length p) ≡ acceptedParsed p
+unfolding acceptedParsed
+is-parsed p d g s f =
+    let start = ap (λ (r : Range). r .start) s in
+    let end = ap (λ (r : Range). r .end) s in
+    rw (d, g, start, end, f)
 
 -- the requests of an accepted packet start in it
 pub requests-in : (p : List ℕ) → Read p → requestsAt p ≤ length p

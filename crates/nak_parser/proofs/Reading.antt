@@ -1,31 +1,37 @@
--- The answers of reading, one for each check that refuses, and the one where none does; and what the checks that are passed show.
-use mathlib.Core.Path.{_≡_, refl}
-use mathlib.Core.Bool.{Bool, true, false, not, cond}
-use mathlib.Core.Logic.{⊎-elim}
-use mathlib.Core.List.{List, []}
-use Prim.Native.Nat.{ℕ, suc, _+_, _*_, _-_, _/_, _%_, _≤_, _<_}
+-- What the checks of reading show: those of the shape, and of a packet that is accepted.
+use mathlib.Core.Path.{_≡_, refl, ap, _∙_}
+use mathlib.Core.Bool.{false}
+use mathlib.Core.List.{List, [], _∷_, _++_}
+use Prim.Native.Nat.{ℕ, _+_, _*_, _-_, _/_, _%_, _≤_, _<_}
 use native.Mathlib.Omega.{arith}
 use lib.Dec.{eqb, ltb}
 use lib.ListN.{length, take, drop, length-drop}
 use lib.Seq.{length-take-le}
-use borrow.Author.Tests.{eqb-true, eqb-false, ltb-false, ltb-true, lt-ltb, le-ltb, eq-eqb, ne-eqb, not-true, not-false}
+use borrow.Author.Tests.{eqb-true, eqb-false, ltb-false, le-ltb, eq-eqb, not-false}
+use Rattle.ranges.proofs.Test.{or-false}
 use Rattle.ranges.specs.Range.{range}
-use Rattle.outcomes.specs.Outcome.{accepted, refused}
-use Rattle.outcomes.specs.Named.{lengthMismatch, badHeader, notNak, scopeReversed, pduSize}
+use Rattle.outcomes.specs.Outcome.{Outcome, accepted}
+use Rattle.outcomes.specs.Checks.{Check, firstOf, NoneOf}
+use Rattle.outcomes.specs.declared.Refusal.the-variants as refusal
+use Rattle.outcomes.proofs.FirstOf.{first-append, first-none, first-accepted}
 use Rattle.octets.specs.Octets.{number, AllOctets}
 use Rattle.octets.specs.Flag.{fieldLength}
 use Rattle.octets.specs.declared.LargeFileFlag.{LargeFileFlag}
 use Rattle.octets.specs.declared.LargeFileFlag.the-variants.{Normal, Large}
 use Rattle.octets.proofs.Fields.{number-below, octets-take, octets-drop}
+use Rattle.nak.specs.declared.Identity.{Identity}
 use Rattle.nak.specs.Header.{wrongFixed}
 use Rattle.nak.specs.Pdu.{nakCode}
-use Rattle.nak.specs.Request.{requestsOutcome}
-use Rattle.nak.proofs.Requests.{requests-either}
-use Rattle.nak.proofs.Checks.{neither, must-be-false, not-both}
-use Rattle.nak_parser.specs.Parser.{octetAt, fieldAt, flagIn, fieldLengthIn, entityLengthIn, numberLengthIn, headerLengthIn, lengthField, scopeAt, behindScope, requestsAt, requestsIn, scopeIn, requestsOf, wrongLength, wrongData, shapeOutcome, readOutcome, refusedParsed, parsedOf}
+use Rattle.nak.specs.Request.{requestsChecks, requestsOutcome}
+use Rattle.nak.specs.Writer.{largestPdu}
+use Rattle.nak.proofs.Requests.{requests-fine, fine-requests}
+use Rattle.nak.proofs.Checks.{none-append, none-both}
+use Rattle.nak_parser.specs.Parser.{octetAt, fieldAt, flagIn, fieldLengthIn, entityLengthIn, numberLengthIn, headerLengthIn, lengthField}
+use Rattle.nak_parser.specs.Parser.{scopeAt, behindScope, requestsAt, requestsIn, identityIn, scopeIn, requestsOf, isWrongLength, wrongLength, isWrongData, wrongData, shapeChecks, readChecks, readOutcome}
 
-pub not-zero : (k : ℕ) → eqb (suc k) 0 ≡ false
-not-zero k = ne-eqb (suc k) 0 (λ e. omega arith)
+-- an identity of these lengths and numbers
+abbrev pub identityOf : ℕ → ℕ → ℕ → ℕ → ℕ → Identity
+identityOf i q s n d = record { «entity_length» = i; «number_length» = q; source = s; number = n; destination = d }
 
 module _ (p : List ℕ) where
   -- the values that the code finds are those of the definition
@@ -40,6 +46,25 @@ module _ (p : List ℕ) where
   pub is-requests : {at f : ℕ} → at ≡ requestsAt p → f ≡ fieldLengthIn p → requestsIn f ((length p - at) / (2 * f)) (drop at p) ≡ requestsOf p
   unfolding requestsOf
   is-requests a f = rw (a, f)
+
+  pub is-identity :
+      {i q source number destination : ℕ}
+      → i ≡ entityLengthIn p
+      → q ≡ numberLengthIn p
+      → source ≡ fieldAt p 4 i
+      → number ≡ fieldAt p (4 + i) q
+      → destination ≡ fieldAt p (4 + i + q) i
+      → identityOf i q source number destination ≡ identityIn p
+  unfolding identityIn
+  is-identity i q s n d = rw (s, n, d, i, q)
+
+  pub is-length : {h len : ℕ} → h ≡ headerLengthIn p → len ≡ lengthField p → isWrongLength (length p) h len ≡ wrongLength p
+  unfolding wrongLength
+  is-length h l = rw (h, l)
+
+  pub is-data : {len f : ℕ} → len ≡ lengthField p → f ≡ fieldLengthIn p → isWrongData len f ≡ wrongData p
+  unfolding wrongData
+  is-data l f = rw (l, f)
 
   -- bounds
   pub field-low : 4 ≤ fieldLengthIn p
@@ -93,72 +118,15 @@ module _ (p : List ℕ) where
   pub right-length : wrongLength p ≡ false → (1 ≤ lengthField p) × (length p ≡ headerLengthIn p + lengthField p)
   unfolding wrongLength
   right-length e =
-      let t = neither (eqb (lengthField p) 0) _ e in
+      let t = or-false (eqb (lengthField p) 0) _ e in
       let z = eqb-false (lengthField p) 0 (t .0) in
       (omega arith, eqb-true (length p) (headerLengthIn p + lengthField p) (not-false _ (t .1)))
 
   pub right-data : wrongData p ≡ false → (1 + 2 * fieldLengthIn p ≤ lengthField p) × ((lengthField p - (1 + 2 * fieldLengthIn p)) % (2 * fieldLengthIn p) ≡ 0)
   unfolding wrongData
   right-data e =
-      let t = neither (ltb (lengthField p) (1 + 2 * fieldLengthIn p)) _ e in
+      let t = or-false (ltb (lengthField p) (1 + 2 * fieldLengthIn p)) _ e in
       (ltb-false (lengthField p) (1 + 2 * fieldLengthIn p) (t .0), eqb-true _ 0 (not-false _ (t .1)))
-
-  -- the answers up to the scope
-  pub shape-short : length p < 4 → shapeOutcome p ≡ lengthMismatch
-  unfolding shapeOutcome
-  shape-short a = rw (lt-ltb (length p) 4 a)
-
-  module _ (a : 4 ≤ length p) where
-    pub shape-15 : wrongFixed (octetAt p 0) (octetAt p 3) ≡ true → shapeOutcome p ≡ badHeader
-    unfolding shapeOutcome
-    shape-15 b = rw (le-ltb (length p) 4 a, b)
-
-    module _ (b : wrongFixed (octetAt p 0) (octetAt p 3) ≡ false) where
-      pub shape-16 : wrongLength p ≡ true → shapeOutcome p ≡ lengthMismatch
-      unfolding shapeOutcome
-      shape-16 c = rw (le-ltb (length p) 4 a, b, c)
-
-      module _ (c : wrongLength p ≡ false) where
-        pub shape-17 : (octetAt p (headerLengthIn p) ≡ nakCode → ⊥) → shapeOutcome p ≡ notNak
-        unfolding shapeOutcome
-        shape-17 d = rw (le-ltb (length p) 4 a, b, c, ne-eqb (octetAt p (headerLengthIn p)) nakCode d)
-
-        module _ (d : octetAt p (headerLengthIn p) ≡ nakCode) where
-          pub shape-data : wrongData p ≡ true → shapeOutcome p ≡ lengthMismatch
-          unfolding shapeOutcome
-          shape-data e = rw (le-ltb (length p) 4 a, b, c, eq-eqb (octetAt p (headerLengthIn p)) nakCode d, e)
-
-          pub shape-fine : wrongData p ≡ false → shapeOutcome p ≡ accepted []
-          unfolding shapeOutcome
-          shape-fine e = rw (le-ltb (length p) 4 a, b, c, eq-eqb (octetAt p (headerLengthIn p)) nakCode d, e)
-
-  -- the answers from the scope on
-  module _ (a : shapeOutcome p ≡ accepted []) where
-    pub read-18 : scopeIn p .end < scopeIn p .start → readOutcome p ≡ scopeReversed
-    unfolding readOutcome
-    read-18 b = rw (a, lt-ltb (scopeIn p .end) (scopeIn p .start) b)
-
-    module _ (b : scopeIn p .start ≤ scopeIn p .end) where
-      pub read-request : (k : ℕ) (vs : List ℕ) → requestsOutcome (requestsOf p) ≡ refused (suc k) vs → readOutcome p ≡ refused (suc k) vs
-      unfolding readOutcome
-      read-request k vs c = rw (a, le-ltb (scopeIn p .end) (scopeIn p .start) b, c, not-zero k)
-
-      module _ (c : requestsOutcome (requestsOf p) ≡ accepted []) where
-        pub read-14 : 4096 < length p → readOutcome p ≡ pduSize
-        unfolding readOutcome
-        read-14 d = rw (a, le-ltb (scopeIn p .end) (scopeIn p .start) b, c, lt-ltb 4096 (length p) d)
-
-        pub read-fine : length p ≤ 4096 → readOutcome p ≡ accepted []
-        unfolding readOutcome
-        read-fine d = rw (a, le-ltb (scopeIn p .end) (scopeIn p .start) b, c, le-ltb 4096 (length p) d)
-
-no-values : (a b c d e : Bool) → cond a lengthMismatch (cond b badHeader (cond c lengthMismatch (cond d notNak (cond e lengthMismatch (accepted []))))) .values ≡ []
-no-values true b c d e = refl
-no-values false true c d e = refl
-no-values false false true d e = refl
-no-values false false false true e = refl
-no-values false false false false true = refl
-no-values false false false false false = refl
 
 -- a packet whose shape is right
 pub record Shape (p : List ℕ) : Type 0 where
@@ -169,58 +137,69 @@ pub record Shape (p : List ℕ) : Type 0 where
   pub code : octetAt p (headerLengthIn p) ≡ nakCode
   pub room : 1 + 2 * fieldLengthIn p ≤ lengthField p
   pub whole : (lengthField p - (1 + 2 * fieldLengthIn p)) % (2 * fieldLengthIn p) ≡ 0
-  pub outcome : shapeOutcome p ≡ accepted []
+  pub none : NoneOf (shapeChecks p)
 
-module _ (p : List ℕ) where
-  pub shape-of : shapeOutcome p .number ≡ 0 → Shape p
-  shape-of z =
-      let a : 4 ≤ length p = ltb-false (length p) 4 (must-be-false _ (λ t. not-both (shape-short p (ltb-true (length p) 4 t)) z)) in
-      let b = must-be-false (wrongFixed (octetAt p 0) (octetAt p 3)) (λ t. not-both (shape-15 p a t) z) in
-      let c = must-be-false (wrongLength p) (λ t. not-both (shape-16 p a b t) z) in
-      let d : octetAt p (headerLengthIn p) ≡ nakCode = eqb-true _ _ (not-false _ (must-be-false (not (eqb (octetAt p (headerLengthIn p)) nakCode)) (λ t. not-both (shape-17 p a b c (eqb-false _ _ (not-true _ t))) z))) in
-      let e = must-be-false (wrongData p) (λ t. not-both (shape-data p a b c d t) z) in
-      record {
-        enough = a;
-        fixed = b;
-        some = right-length p c .0;
-        total = right-length p c .1;
-        code = d;
-        room = right-data p e .0;
-        whole = right-data p e .1;
-        outcome = shape-fine p a b c d e;
-      }
+pub shape-of : (p : List ℕ) → NoneOf (shapeChecks p) → Shape p
+shape-of p n =
+    let total = right-length p (n .1 .1 .0) in
+    let field = right-data p (n .1 .1 .1 .1 .0) in
+    record {
+      enough = ltb-false (length p) 4 (n .0);
+      fixed = n .1 .0;
+      some = total .0;
+      total = total .1;
+      code = eqb-true (octetAt p (headerLengthIn p)) nakCode (not-false _ (n .1 .1 .1 .0));
+      room = field .0;
+      whole = field .1;
+      none = n;
+    }
 
-  shape-values : shapeOutcome p .values ≡ []
-  unfolding shapeOutcome
-  shape-values = no-values (ltb (length p) 4) (wrongFixed (octetAt p 0) (octetAt p 3)) (wrongLength p) (not (eqb (octetAt p (headerLengthIn p)) nakCode)) (wrongData p)
+-- the checks behind the scope, and those from it on
+abbrev pub sizeCheck : List ℕ → List Check
+sizeCheck p = (ltb largestPdu (length p), refusal.PduSize) ∷ []
 
-  -- what is handed back of a packet whose shape is wrong
-  pub parsed-shape : (shapeOutcome p .number ≡ 0 → ⊥) → parsedOf p ≡ refusedParsed (shapeOutcome p .number) 0 0 (length p)
-  unfolding parsedOf readOutcome
-  parsed-shape h = rw (ne-eqb (shapeOutcome p .number) 0 h, ne-eqb (shapeOutcome p .number) 0 h, shape-values)
+abbrev pub scopeChecks : List ℕ → List Check
+scopeChecks p = (ltb (scopeIn p .end) (scopeIn p .start), refusal.ScopeReversed) ∷ requestsChecks (requestsOf p) ++ sizeCheck p
+
+-- the shape is asked, and then these
+pub in-order : (p : List ℕ) → readOutcome p ≡ firstOf (shapeChecks p) (firstOf (scopeChecks p) (accepted []))
+unfolding readOutcome
+in-order p = first-append (shapeChecks p) (scopeChecks p) (accepted [])
+
+-- where the shape is right, the scope is asked
+pub from-scope : (p : List ℕ) → Shape p → readOutcome p ≡ firstOf (scopeChecks p) (accepted [])
+from-scope p s = in-order p ∙ first-none (shapeChecks p) (firstOf (scopeChecks p) (accepted [])) (s .none)
+
+-- where the scope is right too, the requests
+pub from-requests : (p : List ℕ) → Shape p → scopeIn p .start ≤ scopeIn p .end → readOutcome p ≡ firstOf (requestsChecks (requestsOf p)) (firstOf (sizeCheck p) (accepted []))
+from-requests p s b = rw (from-scope p s, le-ltb (scopeIn p .end) (scopeIn p .start) b) (first-append (requestsChecks (requestsOf p)) (sizeCheck p) (accepted []))
+
+-- and where they are, the size
+pub from-size : (p : List ℕ) → Shape p → scopeIn p .start ≤ scopeIn p .end → NoneOf (requestsChecks (requestsOf p)) → readOutcome p ≡ firstOf (sizeCheck p) (accepted [])
+from-size p s b n = from-requests p s b ∙ first-none (requestsChecks (requestsOf p)) (firstOf (sizeCheck p) (accepted [])) n
 
 -- a packet that is accepted
 pub record Read (p : List ℕ) : Type 0 where
   pub shape : Shape p
   pub scope : scopeIn p .start ≤ scopeIn p .end
   pub requests : requestsOutcome (requestsOf p) ≡ accepted []
-  pub size : length p ≤ 4096
+  pub size : length p ≤ largestPdu
   pub outcome : readOutcome p ≡ accepted []
 
--- a shape that is refused refuses
-shape-number : (p : List ℕ) → readOutcome p .number ≡ 0 → shapeOutcome p .number ≡ 0
-unfolding readOutcome
-shape-number p z = go (eqb (shapeOutcome p .number) 0) refl
-  where
-    go : (t : Bool) → eqb (shapeOutcome p .number) 0 ≡ t → shapeOutcome p .number ≡ 0
-    go true e = eqb-true (shapeOutcome p .number) 0 e
-    go false e = rw e at z
+pub read-fine : (p : List ℕ) → Shape p → scopeIn p .start ≤ scopeIn p .end → requestsOutcome (requestsOf p) ≡ accepted [] → length p ≤ largestPdu → readOutcome p ≡ accepted []
+read-fine p s b c d = rw (from-size p s b (fine-requests (requestsOf p) c), le-ltb largestPdu (length p) d)
 
 pub read-of : (p : List ℕ) → readOutcome p .number ≡ 0 → Read p
+unfolding readOutcome
 read-of p z =
-    let s = shape-of p (shape-number p z) in
-    let a = s .outcome in
-    let b : scopeIn p .start ≤ scopeIn p .end = ltb-false (scopeIn p .end) (scopeIn p .start) (must-be-false _ (λ t. not-both (read-18 p a (ltb-true (scopeIn p .end) (scopeIn p .start) t)) z)) in
-    let c : requestsOutcome (requestsOf p) ≡ accepted [] = ⊎-elim (λ x. x) (λ y. absurd (not-both (read-request p a b (y .0) (y .1 .0) (y .1 .1)) z)) (requests-either true (requestsOf p)) in
-    let d : length p ≤ 4096 = ltb-false 4096 (length p) (must-be-false _ (λ t. not-both (read-14 p a b c (ltb-true 4096 (length p) t)) z)) in
-    record { shape = s; scope = b; requests = c; size = d; outcome = read-fine p a b c d }
+    let n = first-accepted (readChecks p) (accepted []) (eq-eqb _ 0 z) .0 in
+    let m = none-append (shapeChecks p) (scopeChecks p) n in
+    let w = none-append (requestsChecks (requestsOf p)) (sizeCheck p) (m .1 .1) in
+    let s = shape-of p (m .0) in
+    record {
+      shape = s;
+      scope = ltb-false (scopeIn p .end) (scopeIn p .start) (m .1 .0);
+      requests = requests-fine (requestsOf p) (w .0);
+      size = ltb-false largestPdu (length p) (w .1 .0);
+      outcome = first-none (readChecks p) (accepted []) n;
+    }

@@ -19,8 +19,8 @@ use Rattle.octets.proofs.Fields.{octets-drop}
 use Rattle.octets.proofs.Largest.{fits-largest}
 use Rattle.nak.specs.Pdu.{Nak, pdu}
 use Rattle.nak.specs.Inner.{GoodLengths}
-use Rattle.nak.specs.Writer.{isBadList, nakOutcome, writeOutcome, written}
-use Rattle.nak.proofs.Checks.{numbersOf, GoodNumbers, not-bad-identity, NakFine, nak-of, fine-nak, write-fine, write-accepted}
+use Rattle.nak.specs.Writer.{isBadList, numbersOf, nakOutcome, writeOutcome, written}
+use Rattle.nak.proofs.Checks.{GoodNumbers, not-bad-identity, NakFine, nak-of, fine-nak, fine-write, write-accepted}
 use Rattle.nak_parser.specs.declared.Parsed.{Parsed}
 use Rattle.nak_parser.specs.Parser.{requestsPart, acceptedParsed, Says, flagIn, fieldLengthIn, entityLengthIn, numberLengthIn, headerLengthIn, scopeAt, requestsAt, requestsIn, identityIn, scopeIn, requestsOf, nakIn, readOutcome}
 use Rattle.nak_parser.proofs.Reading.{Read, read-of, header-is, entity-low, entity-high, number-low, number-high}
@@ -35,8 +35,8 @@ pub read-written :
     → (readOutcome (written xs n buf) ≡ accepted []) × (nakIn (written xs n buf) ≡ n)
 read-written xs n buf z =
     let w = write-accepted xs n (length buf) z in
-    let f = nak-of n (w .says) in
-    rw (w .outcome) (read-back n f, nak-back n f)
+    let f = w .says in
+    rw (fine-write xs n (length buf) w) (read-back n f, nak-back n f)
 
 -- what `parse` hands back of an accepted packet is what the packet says
 pub parsed-says : (p : List ℕ) (n : Nak) → readOutcome p ≡ accepted [] → nakIn p ≡ n → Says p n
@@ -148,6 +148,5 @@ pub written-read :
 written-read p buf a z e =
     let r = read-of p z in
     let f = pdu-forth p a r in
-    let n = fine-nak (nakIn p) (fine-in p a r) in
-    let w = rw f at (write-fine (flat (requestsOf p)) (nakIn p) (length buf) (good-requests p r) n (rw f e)) in
+    let w = rw f at (fine-write (flat (requestsOf p)) (nakIn p) (length buf) (record { list = good-requests p r; says = fine-in p a r; size = rw f e })) in
     (w, rw (w, f), pairs-flat (requestsOf p))

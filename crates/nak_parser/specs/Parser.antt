@@ -2,22 +2,25 @@
 use Prim.Native.Nat.{ℕ, zero, suc, _+_, _*_, _-_, _/_, _%_}
 use mathlib.Core.Path.{_≡_}
 use mathlib.Core.Bool.{Bool, _||_, not, cond}
-use mathlib.Core.List.{List, [], _∷_}
+use mathlib.Core.List.{List, [], _∷_, _++_}
 use lib.Dec.{eqb, ltb}
 use lib.ListN.{length, getD, take, drop}
 use denote.Ref.{RefT, ptr, now}
 use Rattle.ranges.specs.Range.{Range, range}
 use Rattle.outcomes.specs.Outcome.{Outcome, accepted, lent}
-use Rattle.outcomes.specs.Named.{lengthMismatch, badHeader, notNak, scopeReversed, pduSize}
+use Rattle.outcomes.specs.Checks.{Check, firstOf}
+use Rattle.outcomes.specs.declared.Refusal.the-variants as refusal
 use Rattle.octets.specs.Octets.{number}
 use Rattle.octets.specs.Flag.{fieldLength}
 use Rattle.octets.specs.declared.LargeFileFlag.{LargeFileFlag}
 use Rattle.octets.specs.declared.LargeFileFlag.the-variants.{Normal}
 use Rattle.nak.specs.declared.Identity.{Identity}
 use Rattle.nak_parser.specs.declared.Parsed.{Parsed}
+use Rattle.nak_parser.specs.declared.inner.Header.{Header}
 use Rattle.nak.specs.Header.{wrongFixed, flagOf, entityLengthOf, numberLengthOf}
 use Rattle.nak.specs.Pdu.{Nak, nakCode, headerLength}
-use Rattle.nak.specs.Request.{following, requestsOutcome}
+use Rattle.nak.specs.Request.{requestsChecks}
+use Rattle.nak.specs.Writer.{largestPdu}
 
 -- The octet at a place.
 abbrev pub octetAt : List ℕ → ℕ → ℕ
@@ -49,6 +52,17 @@ headerLengthIn p = headerLength (entityLengthIn p) (numberLengthIn p)
 -- The length field, octets 1 and 2.
 unfoldable pub lengthField : List ℕ → ℕ
 lengthField p = fieldAt p 1 2
+
+-- What the header's first four octets say.
+abbrev pub headerIn : List ℕ → Header
+headerIn p =
+    record {
+      flag = flagIn p;
+      «entity_length» = entityLengthIn p;
+      «number_length» = numberLengthIn p;
+      length = headerLengthIn p;
+      «data_length» = lengthField p;
+    }
 
 -- Where the scope starts: behind the directive code.
 unfoldable pub scopeAt : List ℕ → ℕ
@@ -108,30 +122,32 @@ wrongData p = isWrongData (lengthField p) (fieldLengthIn p)
 
 -- Reading, up to the scope: below 4 octets 16; any fixed bit of octets 0 and 3 wrong 15; packet not H plus the length field, or
 -- length field 0, 16; 17; data field not 1 + 2F + a multiple of 2F, 16.
-unfoldable pub shapeOutcome : List ℕ → Outcome
-shapeOutcome p =
-    cond (ltb (length p) 4) lengthMismatch
-    (cond (wrongFixed (octetAt p 0) (octetAt p 3)) badHeader
-    (cond (wrongLength p) lengthMismatch
-    (cond (not (eqb (octetAt p (headerLengthIn p)) nakCode)) notNak
-    (cond (wrongData p) lengthMismatch (accepted [])))))
+abbrev pub shapeChecks : List ℕ → List Check
+shapeChecks p =
+    (ltb (length p) 4, refusal.LengthMismatch)
+    ∷ (wrongFixed (octetAt p 0) (octetAt p 3), refusal.BadHeader)
+    ∷ (wrongLength p, refusal.LengthMismatch)
+    ∷ (not (eqb (octetAt p (headerLengthIn p)) nakCode), refusal.NotNak)
+    ∷ (wrongData p, refusal.LengthMismatch)
+    ∷ []
 
 -- Reading: these, then 18; requests in order; total above 4,096, 14.
+abbrev pub readChecks : List ℕ → List Check
+readChecks p =
+    shapeChecks p
+    ++ ((ltb (scopeIn p .end) (scopeIn p .start), refusal.ScopeReversed) ∷ requestsChecks (requestsOf p) ++ ((ltb largestPdu (length p), refusal.PduSize) ∷ []))
+
 unfoldable pub readOutcome : List ℕ → Outcome
-readOutcome p =
-    following (shapeOutcome p)
-    (cond (ltb (scopeIn p .end) (scopeIn p .start)) scopeReversed
-    (following (requestsOutcome (requestsOf p))
-    (cond (ltb 4096 (length p)) pduSize (accepted []))))
+readOutcome p = firstOf (readChecks p) (accepted [])
 
 -- What reading hands back of a refused packet: the number and what it carries, all else 0; the reader of the requests stands at
 -- its end, the packet's length.
-abbrev pub refusedParsed : ℕ → ℕ → ℕ → ℕ → Parsed
-refusedParsed n s e len =
+abbrev pub refusedParsed : Outcome → ℕ → Parsed
+refusedParsed o len =
     record {
-      refusal = n;
-      start = s;
-      end = e;
+      refusal = o .number;
+      start = getD (o .values) 0 0;
+      end = getD (o .values) 1 0;
       identity = record { «entity_length» = 0; «number_length» = 0; source = 0; number = 0; destination = 0 };
       flag = Normal;
       «scope_start» = 0;
@@ -159,7 +175,7 @@ acceptedParsed p =
 
 -- Either, by the outcome.
 abbrev pub parsed : Outcome → List ℕ → Parsed
-parsed o p = cond (eqb (o .number) 0) (acceptedParsed p) (refusedParsed (o .number) (getD (o .values) 0 0) (getD (o .values) 1 0) (length p))
+parsed o p = cond (eqb (o .number) 0) (acceptedParsed p) (refusedParsed o (length p))
 
 -- What reading hands back of a packet.
 unfoldable pub parsedOf : List ℕ → Parsed

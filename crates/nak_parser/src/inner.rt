@@ -1,15 +1,21 @@
 // Inner: not part of the public interface. Some of these have a `requires`, which their callers show.
-use nak::inner::RequestsAnswer;
+use nak::inner::header_length;
 use nak::inner::is_empty;
 use octets::LargeFileFlag;
 use octets::inner::get;
+use outcomes::Refusal;
+use outcomes::Verdict;
 ghost use mathlib.Core.Path.{_≡_};
+ghost use mathlib.Core.List.{[], _∷_};
 ghost use Prim.Native.Nat.{_+_, _*_, _-_, _≤_, _<_};
 ghost use lib.ListN.{length, take, drop};
 ghost use denote.Ref.{ptr};
-ghost use Rattle.nak.specs.Header.{wrongFixed};
-ghost use Rattle.nak.specs.Request.{requestsCase, requestsOutcome};
-ghost use Rattle.nak_parser.specs.Parser.{flagIn, fieldLengthIn, entityLengthIn, numberLengthIn, headerLengthIn, lengthField, requestsIn, identityIn, isWrongLength, isWrongData, shapeOutcome, refusedParsed};
+ghost use Rattle.outcomes.specs.Outcome.{accepted, refused as outcomeOf};
+ghost use Rattle.outcomes.specs.Refusal.{refusing};
+ghost use Rattle.outcomes.specs.Checks.{firstOf, verdictCase};
+ghost use Rattle.nak.specs.Header.{wrongFixed, flagOf};
+ghost use Rattle.nak.specs.Request.{requestsChecks};
+ghost use Rattle.nak_parser.specs.Parser.{headerIn, headerLengthIn, requestsIn, identityIn, isWrongLength, isWrongData, shapeChecks, refusedParsed};
 use crate::Parsed;
 use nak::Identity;
 
@@ -48,84 +54,75 @@ pub fn wrong_data(len: usize, f: usize) -> bool
     (len - (1 + 2 * f)) % (2 * f) != 0
 }
 
-// The large file flag, F, I, Q and H of a packet, and its length field.
-pub fn flag_in(packet: &[u8]) -> LargeFileFlag
-    requires { ⌜ 1 ≤ length (now packet) ⌝ }
-    ensures { λ r. ⌜ r ≡ flagIn (now (packet .entry)) ⌝ }
+// The large file flag of octet 0.
+pub fn flag_of(octet: usize) -> LargeFileFlag
+    ensures { λ r. ⌜ r ≡ flagOf octet ⌝ }
 {
-    if wide(packet[0]) % 2 == 0 {
+    if octet % 2 == 0 {
         LargeFileFlag::Normal
     } else {
         LargeFileFlag::Large
     }
 }
 
-pub fn field_length_in(packet: &[u8]) -> usize
-    requires { ⌜ 1 ≤ length (now packet) ⌝ }
-    ensures { λ r. ⌜ r ≡ fieldLengthIn (now (packet .entry)) ⌝ }
-{
-    flag_in(packet).field_length()
+// What the header's first four octets say: the large file flag, I and Q, and so H; the length field.
+pub struct Header {
+    pub flag: LargeFileFlag,
+    pub entity_length: usize,
+    pub number_length: usize,
+    pub length: usize,
+    pub data_length: usize,
 }
 
-pub fn entity_length_in(packet: &[u8]) -> usize
+pub fn header_in(packet: &[u8]) -> Header
     requires { ⌜ 4 ≤ length (now packet) ⌝ }
-    ensures { λ r. ⌜ r ≡ entityLengthIn (now (packet .entry)) ⌝ }
+    ensures { λ r. ⌜ r ≡ headerIn (now (packet .entry)) ⌝ }
 {
-    wide(packet[3]) / 16 % 8 + 1
-}
-
-pub fn number_length_in(packet: &[u8]) -> usize
-    requires { ⌜ 4 ≤ length (now packet) ⌝ }
-    ensures { λ r. ⌜ r ≡ numberLengthIn (now (packet .entry)) ⌝ }
-{
-    wide(packet[3]) % 8 + 1
-}
-
-pub fn header_length_in(packet: &[u8]) -> usize
-    requires { ⌜ 4 ≤ length (now packet) ⌝ }
-    ensures { λ r. ⌜ r ≡ headerLengthIn (now (packet .entry)) ⌝ }
-{
-    4 + 2 * entity_length_in(packet) + number_length_in(packet)
-}
-
-pub fn length_field(packet: &[u8]) -> usize
-    requires { ⌜ 4 ≤ length (now packet) ⌝ }
-    ensures { λ r. ⌜ r ≡ lengthField (now (packet .entry)) ⌝ }
-{
-    get(packet, 1, 2) as usize
-}
-
-// The number of the refusal of a packet whose shape is wrong, or 0.
-pub fn shape(packet: &[u8]) -> u64
-    ensures { λ r. ⌜ r ≡ shapeOutcome (now (packet .entry)) .number ⌝ }
-{
-    if packet.len() < 4 {
-        return 16;
+    let octet = wide(packet[3]);
+    let entity_length = octet / 16 % 8 + 1;
+    let number_length = octet % 8 + 1;
+    let flag = flag_of(wide(packet[0]));
+    let length = header_length(entity_length, number_length);
+    let data_length = get(packet, 1, 2) as usize;
+    Header {
+        flag,
+        entity_length,
+        number_length,
+        length,
+        data_length,
     }
+}
+
+// The checks of a packet of at least four octets, up to the scope.
+pub fn shape(packet: &[u8], header: Header) -> Verdict
+    requires { ⌜ (4 ≤ length (now packet)) × (header ≡ headerIn (now packet)) ⌝ }
+    ensures { λ r. ⌜ verdictCase r ≡ firstOf (shapeChecks (now (packet .entry))) (accepted []) ⌝ }
+{
     if wrong_fixed(wide(packet[0]), wide(packet[3])) {
-        return 15;
+        return Verdict::Refused(Refusal::BadHeader);
     }
-    let h = header_length_in(packet);
-    let len = length_field(packet);
+    let h = header.length;
+    let len = header.data_length;
     if wrong_length(packet.len(), h, len) {
-        return 16;
+        return Verdict::Refused(Refusal::LengthMismatch);
     }
     if packet[h] != 8 {
-        return 17;
+        return Verdict::Refused(Refusal::NotNak);
     }
-    if wrong_data(len, field_length_in(packet)) {
-        return 16;
+    let flag = header.flag;
+    if wrong_data(len, flag.field_length()) {
+        return Verdict::Refused(Refusal::LengthMismatch);
     }
-    0
+    Verdict::Passed
 }
 
 // Source entity, sequence number, destination entity.
-pub fn identity_in(packet: &[u8]) -> Identity
-    requires { ⌜ (4 ≤ length (now packet)) × (headerLengthIn (now packet) ≤ length (now packet)) ⌝ }
+pub fn identity_in(packet: &[u8], header: Header) -> Identity
+    requires { ⌜ (headerLengthIn (now packet) ≤ length (now packet)) × (header ≡ headerIn (now packet)) ⌝ }
     ensures { λ r. ⌜ r ≡ identityIn (now (packet .entry)) ⌝ }
 {
-    let i = entity_length_in(packet);
-    let q = number_length_in(packet);
+    let i = header.entity_length;
+    let q = header.number_length;
     let source = get(packet, 4, i);
     let number = get(packet, 4 + i, q);
     let destination = get(packet, 4 + i + q, i);
@@ -139,9 +136,9 @@ pub fn identity_in(packet: &[u8]) -> Identity
 }
 
 // Each request of a packet in order: there are `count` from the place `from` on, their numbers of f octets.
-pub fn check_packet(packet: &[u8], from: usize, f: usize, count: usize) -> RequestsAnswer
+pub fn check_packet(packet: &[u8], from: usize, f: usize, count: usize) -> Verdict
     requires { ⌜ (f ≤ 8) × (from + 2 * f * count ≤ length (now packet)) ⌝ }
-    ensures { λ r. ⌜ requestsCase r ≡ requestsOutcome (requestsIn f count (drop from (now (packet .entry)))) ⌝ }
+    ensures { λ r. ⌜ verdictCase r ≡ firstOf (requestsChecks (requestsIn f count (drop from (now (packet .entry))))) (accepted []) ⌝ }
 {
     let mut at = from;
     let mut i = 0;
@@ -149,20 +146,20 @@ pub fn check_packet(packet: &[u8], from: usize, f: usize, count: usize) -> Reque
         let s = get(packet, at, f);
         let e = get(packet, at + f, f);
         if e < s {
-            return RequestsAnswer::StartLargerThanEnd(s, e);
+            return Verdict::Refused(Refusal::StartLargerThanEnd(s, e));
         }
         if is_empty(i, s, e) {
-            return RequestsAnswer::EmptySegment;
+            return Verdict::Refused(Refusal::EmptySegment);
         }
         at += 2 * f;
         i += 1;
     }
-    RequestsAnswer::Fine
+    Verdict::Passed
 }
 
-// What is handed back of a refused packet.
-pub fn refused(number: u64, start: u64, end: u64, length: usize) -> Parsed
-    ensures { λ r. ⌜ r ≡ refusedParsed number start end length ⌝ }
+// What is handed back of a refused packet: the number, and the start and end that it carries.
+fn refused_by(number: u64, start: u64, end: u64, length: usize) -> Parsed
+    ensures { λ r. ⌜ r ≡ refusedParsed (outcomeOf number (start ∷ end ∷ [])) length ⌝ }
 {
     Parsed {
         refusal: number,
@@ -181,6 +178,39 @@ pub fn refused(number: u64, start: u64, end: u64, length: usize) -> Parsed
         from: 0,
         to: 0,
         next: length,
+    }
+}
+
+// The same by the refusal.
+pub fn refused(r: Refusal, length: usize) -> Parsed
+    ensures { λ p. ⌜ p ≡ refusedParsed (refusing r) length ⌝ }
+{
+    match r {
+        Refusal::StoreFull => refused_by(1, 0, 0, length),
+        Refusal::EmptySegment => refused_by(2, 0, 0, length),
+        Refusal::StartLargerThanEnd(s, e) => refused_by(3, s, e, length),
+        Refusal::LargeFileSegmentNotSupported => refused_by(4, 0, 0, length),
+        Refusal::InvalidSegmentBoundary(s, e) => refused_by(5, s, e, length),
+        Refusal::BufferSizeMissmatch(needed, given) => refused_by(
+            6,
+            needed as u64,
+            given as u64,
+            length,
+        ),
+        Refusal::LargeSegmentForNormalFileSize => refused_by(7, 0, 0, length),
+        Refusal::NotCoalesced => refused_by(8, 0, 0, length),
+        Refusal::RangeTooLong => refused_by(9, 0, 0, length),
+        Refusal::BadStore => refused_by(10, 0, 0, length),
+        Refusal::BadCursor => refused_by(11, 0, 0, length),
+        Refusal::ScopeBelowList => refused_by(12, 0, 0, length),
+        Refusal::BadIdentity => refused_by(13, 0, 0, length),
+        Refusal::PduSize => refused_by(14, 0, 0, length),
+        Refusal::BadHeader => refused_by(15, 0, 0, length),
+        Refusal::LengthMismatch => refused_by(16, 0, 0, length),
+        Refusal::NotNak => refused_by(17, 0, 0, length),
+        Refusal::ScopeReversed => refused_by(18, 0, 0, length),
+        Refusal::AlreadyKnown => refused_by(19, 0, 0, length),
+        Refusal::BudgetTooLarge => refused_by(20, 0, 0, length),
     }
 }
 

@@ -1,8 +1,9 @@
 // Reading one NAK PDU into plain values.
 use nak::Identity;
-use nak::inner::RequestsAnswer;
 use octets::LargeFileFlag;
 use octets::inner::get;
+use outcomes::Refusal;
+use outcomes::Verdict;
 ghost use mathlib.Core.Path.{_≡_};
 ghost use denote.Ref.{ptr};
 ghost use Rattle.nak_parser.specs.Parser.{parsedOf, requestsPart, requestsPtr};
@@ -30,33 +31,31 @@ pub fn parse(packet: &[u8]) -> Parsed
     ensures { λ r. ⌜ r ≡ parsedOf (now (packet .entry)) ⌝ }
 {
     let total = packet.len();
-    let number = inner::shape(packet);
-    if number != 0 {
-        return inner::refused(number, 0, 0, total);
+    if total < 4 {
+        return inner::refused(Refusal::LengthMismatch, total);
     }
-    let at = inner::header_length_in(packet) + 1;
-    let f = inner::field_length_in(packet);
+    let header = inner::header_in(packet);
+    let shape = inner::shape(packet, header);
+    if let Verdict::Refused(r) = shape {
+        return inner::refused(r, total);
+    }
+    let flag = header.flag;
+    let f = flag.field_length();
+    let at = header.length + 1;
     let scope_start = get(packet, at, f);
     let scope_end = get(packet, at + f, f);
     if scope_end < scope_start {
-        return inner::refused(18, 0, 0, total);
+        return inner::refused(Refusal::ScopeReversed, total);
     }
     let from = at + 2 * f;
-    let answer = inner::check_packet(packet, from, f, (total - from) / (2 * f));
-    match answer {
-        RequestsAnswer::StartLargerThanEnd(s, e) => {
-            return inner::refused(3, s, e, total);
-        }
-        RequestsAnswer::EmptySegment => {
-            return inner::refused(2, 0, 0, total);
-        }
-        RequestsAnswer::Fine => {}
+    let found = inner::check_packet(packet, from, f, (total - from) / (2 * f));
+    if let Verdict::Refused(r) = found {
+        return inner::refused(r, total);
     }
     if 4096 < total {
-        return inner::refused(14, 0, 0, total);
+        return inner::refused(Refusal::PduSize, total);
     }
-    let identity = inner::identity_in(packet);
-    let flag = inner::flag_in(packet);
+    let identity = inner::identity_in(packet, header);
     Parsed {
         refusal: 0,
         start: 0,
@@ -102,7 +101,8 @@ pub fn next_at(packet: &[u8], at: usize) -> Found
             at,
         };
     }
-    let f = inner::field_length_in(packet);
+    let flag = inner::flag_of(inner::wide(packet[0]));
+    let f = flag.field_length();
     if total - at < 2 * f {
         return Found {
             step: Step::End,

@@ -1,191 +1,212 @@
 -- `nak_parser::parse` meets its contract: each return is what is handed back after the checks passed before it.
-use Rattle.nak_parser.proofs.Reading.{is-scope, is-place, is-requests, field-low, field-high, header-high, read-18, read-request, read-14, read-fine, shape-of, parsed-shape}
-use Rattle.nak_parser.specs.Parser.{behindScope, scopeIn, requestsOf, acceptedParsed, parsedOf}
-use native.Mathlib.Nat.{mul-div-le}
-use Rattle.nak.specs.Request.{requestsCase, requestsOutcome}
-use Rattle.outcomes.specs.Outcome.{accepted}
-use mathlib.Core.List.{[]}
 use native.Mathlib.Omega.{arith}
+use native.Mathlib.Nat.{mul-div-le}
 use Prim.Native.Nat.{ℕ, _+_, _*_, _-_, _≤_}
 use mathlib.Core.Path.{_≡_, sym, ap, _∙_}
+use mathlib.Core.List.{List, []}
 use lib.ListN.{length}
+use borrow.Author.Tests.{lt-ltb, le-ltb}
+use Rattle.ranges.specs.Range.{Range, range}
+use Rattle.outcomes.specs.Outcome.{accepted}
+use Rattle.outcomes.specs.Checks.{firstOf, NoneOf, verdictCase}
+use Rattle.outcomes.specs.declared.Refusal.{Refusal}
+use Rattle.outcomes.specs.declared.Refusal.the-variants as refusal
+use Rattle.outcomes.proofs.FirstOf.{first-append, first-refused, none-of}
+use Rattle.octets.specs.Flag.{fieldLength}
+use Rattle.nak.specs.Request.{requestsChecks}
+use Rattle.nak_parser.specs.declared.inner.Header.{Header}
+use Rattle.nak_parser.specs.Parser.{headerIn, fieldLengthIn, headerLengthIn, behindScope, requestsAt, scopeIn, requestsOf, shapeChecks, readChecks, readOutcome, acceptedParsed}
+use Rattle.nak_parser.proofs.Reading.{is-scope, is-place, is-requests, field-low, field-high, header-high}
+use Rattle.nak_parser.proofs.Reading.{Shape, shape-of, sizeCheck, scopeChecks, in-order, from-scope, from-requests, from-size}
+use Rattle.nak_parser.proofs.Handed.{parsed-accepted, parsed-by, short, is-parsed}
 use borrow.Author.Needs.{needs}
 use Rattle.nak_parser.proofs.parse.Statement.{statement}
 use Rattle.nak_parser.proofs.parse.Tie as tie
 
-shape-requires : tie.Need-shape-requires
-shape-requires c κs = search needs
+-- the packet
+abbrev p : tie.Start → List ℕ
+p s = s .args .packet .now
+
+-- the header, and the shape
+abbrev startH : tie.After-header-in → tie.Start
+startH c = c .before .before .before
+
+abbrev startS : tie.After-shape → tie.Start
+startS c = startH (c .before)
+
+verdict : (c : tie.After-shape) → verdictCase (c .shape .result) ≡ firstOf (shapeChecks (p (startS c))) (accepted [])
+verdict c = c .shape .ensures
+
+-- the shape is right
+abbrev startE : tie.After-enum-told → tie.Start
+startE c = startS (c .before .before)
+
+abbrev headerE : tie.After-enum-told → Header
+headerE c = c .before .before .before .header-in .result
+
+shape-right : (c : tie.After-enum-told) → Shape (p (startE c))
+shape-right c = shape-of (p (startE c)) (none-of (shapeChecks (p (startE c))) (ap verdictCase (sym (c .enum-told .given .1)) ∙ verdict (c .before .before)))
+
+h-is : (c : tie.After-enum-told) → headerE c .length ≡ headerLengthIn (p (startE c))
+h-is c = ap (λ (h : Header). h .length) (c .before .before .before .header-in .ensures)
+
+-- F, and where the scope and the requests start
+abbrev startF : tie.After-field-length → tie.Start
+startF c = startE (c .before)
+
+abbrev f : tie.After-field-length → ℕ
+f c = c .field-length .result
+
+abbrev at : tie.After-field-length → ℕ
+at c = headerE (c .before) .length + 1
+
+f-is : (c : tie.After-field-length) → f c ≡ fieldLengthIn (p (startF c))
+unfolding fieldLengthIn
+f-is c = c .field-length .ensures ∙ ap (λ (h : Header). fieldLength (h .flag)) (c .before .before .before .before .header-in .ensures)
+
+at-is : (c : tie.After-field-length) → at c ≡ headerLengthIn (p (startF c)) + 1
+at-is c = ap (λ (h : ℕ). h + 1) (h-is (c .before))
+
+place : (c : tie.After-field-length) → behindScope (at c) (f c) ≡ requestsAt (p (startF c))
+place c = is-place (p (startF c)) (at-is c) (f-is c)
+
+room : (c : tie.After-field-length) → (at c ≤ 29) × ((4 ≤ f c) × ((f c ≤ 8) × (at c + 2 * f c ≤ length (p (startF c)))))
+room c =
+    let q = p (startF c) in
+    let s = shape-right (c .before) in
+    let a = at-is c in
+    let e = f-is c in
+    (omega (arith, header-high q), (omega (arith, field-low q), (omega (arith, field-high q), omega (arith, s .total, s .room))))
+
+-- the scope
+abbrev fromG : tie.After-get2 → tie.After-field-length
+fromG c = c .before .before .before
+
+abbrev fromG2 : tie.After-get → tie.After-field-length
+fromG2 c = c .before .before
+
+scope : (c : tie.After-get2) → range (c .before .get .result) (c .get2 .result) ≡ scopeIn (p (startF (fromG c)))
+scope c = is-scope (p (startF (fromG c))) (at-is (fromG c)) (f-is (fromG c)) (c .before .get .ensures) (c .get2 .ensures)
+
+ordered : (c : tie.Else2) → let q = p (startF (fromG (c .before))) in scopeIn q .start ≤ scopeIn q .end
+ordered c = rw (← scope (c .before)) (omega (arith, c .if2 .left))
+
+-- the requests
+abbrev fromC : tie.After-check-packet → tie.Else2
+fromC c = c .before
+
+abbrev startC : tie.After-check-packet → tie.Start
+startC c = startF (fromG (fromC c .before))
+
+asked : (c : tie.After-check-packet) → verdictCase (c .check-packet .result) ≡ firstOf (requestsChecks (requestsOf (p (startC c)))) (accepted [])
+asked c =
+    let g = fromG (fromC c .before) in
+    c .check-packet .ensures ∙ ap (λ (rs : List Range). firstOf (requestsChecks rs) (accepted [])) (is-requests (p (startC c)) (place g) (f-is g))
+
+abbrev shapeC : (c : tie.After-check-packet) → Shape (p (startC c))
+shapeC c = shape-right (fromG (fromC c .before) .before)
+
+-- they are right
+abbrev fromR : tie.After-enum-told2 → tie.After-check-packet
+fromR c = c .before .before
+
+requests : (c : tie.After-enum-told2) → NoneOf (requestsChecks (requestsOf (p (startC (fromR c)))))
+requests c = none-of (requestsChecks (requestsOf (p (startC (fromR c))))) (ap verdictCase (sym (c .enum-told2 .given .1)) ∙ asked (fromR c))
+
+then-size : (c : tie.After-enum-told2) → let q = p (startC (fromR c)) in readOutcome q ≡ firstOf (sizeCheck q) (accepted [])
+then-size c = from-size (p (startC (fromR c))) (shapeC (fromR c)) (ordered (fromC (fromR c))) (requests c)
 
 refused-requires : tie.Need-refused-requires
 refused-requires c κs = search needs
 
 returns : tie.Need-returns
 returns c =
-    let p = c .before .before .before .before .args .packet .now in
-    rw (parsed-shape p (λ z. c .before .if1 .taken (c .before .before .shape .ensures ∙ z)), ← c .before .before .shape .ensures) (c .refused .ensures)
+    let q = p (c .before .before .before) in
+    c .refused .ensures ∙ parsed-by q refusal.LengthMismatch (short q (c .before .if1 .taken))
 
-header-length-in-requires : tie.Need-header-length-in-requires
-header-length-in-requires c κs =
-    let p = c .before .before .before .args .packet .now in
-    let s = shape-of p (sym (c .before .shape .ensures) ∙ c .if1 .left) in
-    let fl = field-low p in
-    let fh = field-high p in
-    let hh = header-high p in
-    omega arith
+header-in-requires : tie.Need-header-in-requires
+header-in-requires c κs = search needs
 
-add-at : tie.Need-add-at
-add-at c =
-    let p = c .before .before .before .before .args .packet .now in
-    let s = shape-of p (sym (c .before .before .shape .ensures) ∙ c .before .if1 .left) in
-    let fl = field-low p in
-    let fh = field-high p in
-    let hh = header-high p in
-    omega arith
+shape-requires : tie.Need-shape-requires
+shape-requires c κs = search needs
 
-field-length-in-requires : tie.Need-field-length-in-requires
-field-length-in-requires c κs =
-    let p = c .before .before .before .before .args .packet .now in
-    let s = shape-of p (sym (c .before .before .shape .ensures) ∙ c .before .if1 .left) in
-    let fl = field-low p in
-    let fh = field-high p in
-    let hh = header-high p in
-    omega arith
-
-get-requires : tie.Need-get-requires
-get-requires c κs =
-    let p = c .before .before .before .before .before .args .packet .now in
-    let s = shape-of p (sym (c .before .before .before .shape .ensures) ∙ c .before .before .if1 .left) in
-    let fl = field-low p in
-    let fh = field-high p in
-    let hh = header-high p in
-    omega arith
-
-add-get : tie.Need-add-get
-add-get c =
-    let p = c .before .before .before .before .before .before .args .packet .now in
-    let s = shape-of p (sym (c .before .before .before .before .shape .ensures) ∙ c .before .before .before .if1 .left) in
-    let fl = field-low p in
-    let fh = field-high p in
-    let hh = header-high p in
-    omega arith
-
-get-requires-2 : tie.Need-get-requires-2
-get-requires-2 c κs =
-    let p = c .before .before .before .before .before .before .args .packet .now in
-    let s = shape-of p (sym (c .before .before .before .before .shape .ensures) ∙ c .before .before .before .if1 .left) in
-    let fl = field-low p in
-    let fh = field-high p in
-    let hh = header-high p in
-    omega arith
+enum-known-shape : tie.Need-enum-known-shape
+enum-known-shape c = search needs
 
 refused-requires-2 : tie.Need-refused-requires-2
 refused-requires-2 c κs = search needs
 
 returns-2 : tie.Need-returns-2
-unfolding parsedOf
 returns-2 c =
-    let p = c .before .before .before .before .before .before .before .before .before .args .packet .now in
-    let s = shape-of p (sym (c .before .before .before .before .before .before .before .shape .ensures) ∙ c .before .before .before .before .before .before .if1 .left) in
-    let r = is-scope p (ap (λ (x : ℕ). x + 1) (c .before .before .before .before .before .header-length-in .ensures)) (c .before .before .before .before .field-length-in .ensures) (c .before .before .before .get .ensures) (c .before .before .get2 .ensures) in
-    let e = read-18 p (s .outcome) (rw (← r) (c .before .if2 .taken)) in
-    rw e (c .refused2 .ensures)
+    let b = c .before .before .before .before in
+    let q = p (startS b) in
+    let r : Refusal = c .before .before .shape2 .given .0 .0 in
+    let e = first-refused (shapeChecks q) r (firstOf (scopeChecks q) (accepted [])) (ap verdictCase (sym (c .before .before .shape2 .given .1)) ∙ verdict b) in
+    c .refused2 .ensures ∙ parsed-by q r (e ∙ sym (in-order q))
 
-mul-from : tie.Need-mul-from
-mul-from c =
-    let p = c .before .before .before .before .before .before .before .before .args .packet .now in
-    let s = shape-of p (sym (c .before .before .before .before .before .before .shape .ensures) ∙ c .before .before .before .before .before .if1 .left) in
-    let fl = field-low p in
-    let fh = field-high p in
-    let hh = header-high p in
-    omega arith
+enum-told : tie.Need-enum-told
+enum-told c = search needs
 
-add-from : tie.Need-add-from
-add-from c =
-    let p = c .before .before .before .before .before .before .before .before .args .packet .now in
-    let s = shape-of p (sym (c .before .before .before .before .before .before .shape .ensures) ∙ c .before .before .before .before .before .if1 .left) in
-    let fl = field-low p in
-    let fh = field-high p in
-    let hh = header-high p in
-    omega arith
+field-length-requires : tie.Need-field-length-requires
+field-length-requires c κs = search needs
 
-sub-check-packet : tie.Need-sub-check-packet
-sub-check-packet c =
-    let p = c .before .before .before .before .before .before .before .before .args .packet .now in
-    let s = shape-of p (sym (c .before .before .before .before .before .before .shape .ensures) ∙ c .before .before .before .before .before .if1 .left) in
-    let fl = field-low p in
-    let fh = field-high p in
-    let hh = header-high p in
-    omega arith
+add-at : tie.Need-add-at
+add-at c = omega (arith, room (c .before))
 
-mul-check-packet : tie.Need-mul-check-packet
-mul-check-packet c =
-    let p = c .before .before .before .before .before .before .before .before .args .packet .now in
-    let s = shape-of p (sym (c .before .before .before .before .before .before .shape .ensures) ∙ c .before .before .before .before .before .if1 .left) in
-    let fl = field-low p in
-    let fh = field-high p in
-    let hh = header-high p in
-    omega arith
+get-requires : tie.Need-get-requires
+get-requires c κs = omega (arith, room (c .before))
 
-div-check-packet : tie.Need-div-check-packet
-div-check-packet c =
-    let p = c .before .before .before .before .before .before .before .before .args .packet .now in
-    let s = shape-of p (sym (c .before .before .before .before .before .before .shape .ensures) ∙ c .before .before .before .before .before .if1 .left) in
-    let fl = field-low p in
-    let fh = field-high p in
-    let hh = header-high p in
-    omega arith
+add-get : tie.Need-add-get
+add-get c = omega (arith, room (fromG2 c))
 
-check-packet-requires : tie.Need-check-packet-requires
-check-packet-requires c κs =
-    let p = c .before .before .before .before .before .before .before .before .args .packet .now in
-    let s = shape-of p (sym (c .before .before .before .before .before .before .shape .ensures) ∙ c .before .before .before .before .before .if1 .left) in
-    let fl = field-low p in
-    let fh = field-high p in
-    let hh = header-high p in
-    let m = mul-div-le (length p - behindScope (c .before .before .before .before .header-length-in .result + 1) (c .before .before .before .field-length-in .result)) (2 * c .before .before .before .field-length-in .result) in
-    omega arith
-
-enum-known-answer : tie.Need-enum-known-answer
-enum-known-answer c = search needs
+get-requires-2 : tie.Need-get-requires-2
+get-requires-2 c κs = omega (arith, room (fromG2 c))
 
 refused-requires-3 : tie.Need-refused-requires-3
 refused-requires-3 c κs = search needs
 
 returns-3 : tie.Need-returns-3
-unfolding parsedOf
 returns-3 c =
-    let p = c .before .before .before .before .before .before .before .before .before .before .before .before .before .args .packet .now in
-    let s = shape-of p (sym (c .before .before .before .before .before .before .before .before .before .before .before .shape .ensures) ∙ c .before .before .before .before .before .before .before .before .before .before .if1 .left) in
-    let fl = field-low p in
-    let fh = field-high p in
-    let hh = header-high p in
-    let r = is-scope p (ap (λ (x : ℕ). x + 1) (c .before .before .before .before .before .before .before .before .before .header-length-in .ensures)) (c .before .before .before .before .before .before .before .before .field-length-in .ensures) (c .before .before .before .before .before .before .before .get .ensures) (c .before .before .before .before .before .before .get2 .ensures) in
-    let b : scopeIn p .start ≤ scopeIn p .end = rw (← r) (omega arith) in
-    let at = is-place p (ap (λ (x : ℕ). x + 1) (c .before .before .before .before .before .before .before .before .before .header-length-in .ensures)) (c .before .before .before .before .before .before .before .before .field-length-in .ensures) in
-    let y = is-requests p at (c .before .before .before .before .before .before .before .before .field-length-in .ensures) in
-    let e = read-request p (s .outcome) b 2 _ (ap requestsOutcome (sym y) ∙ sym (c .before .before .before .before .check-packet .ensures) ∙ ap requestsCase (c .before .before .answer .given .1)) in
-    rw e (c .refused3 .ensures)
+    let g = c .before .before in
+    let q = p (startF (fromG g)) in
+    let reversed = lt-ltb (scopeIn q .end) (scopeIn q .start) (rw (← scope g) (c .before .if2 .taken)) in
+    c .refused3 .ensures ∙ parsed-by q refusal.ScopeReversed (rw (from-scope q (shape-right (fromG g .before)), reversed))
 
-enum-told : tie.Need-enum-told
-enum-told c = search needs
+mul-from : tie.Need-mul-from
+mul-from c = omega (arith, room (fromG (c .before)))
+
+add-from : tie.Need-add-from
+add-from c = omega (arith, room (fromG (c .before)))
+
+sub-check-packet : tie.Need-sub-check-packet
+sub-check-packet c = omega (arith, room (fromG (c .before)))
+
+mul-check-packet : tie.Need-mul-check-packet
+mul-check-packet c = omega (arith, room (fromG (c .before)))
+
+div-check-packet : tie.Need-div-check-packet
+div-check-packet c = omega (arith, room (fromG (c .before)))
+
+check-packet-requires : tie.Need-check-packet-requires
+check-packet-requires c κs =
+    let g = fromG (c .before) in
+    let r = room g in
+    let m = mul-div-le (length (p (startF g)) - behindScope (at g) (f g)) (2 * f g) in
+    (omega (arith, r), omega (arith, r, m))
+
+enum-known-found : tie.Need-enum-known-found
+enum-known-found c = search needs
 
 refused-requires-4 : tie.Need-refused-requires-4
 refused-requires-4 c κs = search needs
 
 returns-4 : tie.Need-returns-4
-unfolding parsedOf
 returns-4 c =
-    let p = c .before .before .before .before .before .before .before .before .before .before .before .before .args .packet .now in
-    let s = shape-of p (sym (c .before .before .before .before .before .before .before .before .before .before .shape .ensures) ∙ c .before .before .before .before .before .before .before .before .before .if1 .left) in
-    let fl = field-low p in
-    let fh = field-high p in
-    let hh = header-high p in
-    let r = is-scope p (ap (λ (x : ℕ). x + 1) (c .before .before .before .before .before .before .before .before .header-length-in .ensures)) (c .before .before .before .before .before .before .before .field-length-in .ensures) (c .before .before .before .before .before .before .get .ensures) (c .before .before .before .before .before .get2 .ensures) in
-    let b : scopeIn p .start ≤ scopeIn p .end = rw (← r) (omega arith) in
-    let at = is-place p (ap (λ (x : ℕ). x + 1) (c .before .before .before .before .before .before .before .before .header-length-in .ensures)) (c .before .before .before .before .before .before .before .field-length-in .ensures) in
-    let y = is-requests p at (c .before .before .before .before .before .before .before .field-length-in .ensures) in
-    let e = read-request p (s .outcome) b 1 [] (ap requestsOutcome (sym y) ∙ sym (c .before .before .before .check-packet .ensures) ∙ ap requestsCase (c .before .enum-told .given .1)) in
-    rw e (c .refused4 .ensures)
+    let b = c .before .before .before .before in
+    let q = p (startC b) in
+    let r : Refusal = c .before .before .found .given .0 .0 in
+    let e = first-refused (requestsChecks (requestsOf q)) r (firstOf (sizeCheck q) (accepted [])) (ap verdictCase (sym (c .before .before .found .given .1)) ∙ asked b) in
+    c .refused4 .ensures ∙ parsed-by q r (e ∙ sym (from-requests q (shapeC b) (ordered (fromC b))))
 
 enum-told-2 : tie.Need-enum-told-2
 enum-told-2 c = search needs
@@ -194,85 +215,57 @@ refused-requires-5 : tie.Need-refused-requires-5
 refused-requires-5 c κs = search needs
 
 returns-5 : tie.Need-returns-5
-unfolding parsedOf
 returns-5 c =
-    let p = c .before .before .before .before .before .before .before .before .before .before .before .before .before .args .packet .now in
-    let s = shape-of p (sym (c .before .before .before .before .before .before .before .before .before .before .before .shape .ensures) ∙ c .before .before .before .before .before .before .before .before .before .before .if1 .left) in
-    let fl = field-low p in
-    let fh = field-high p in
-    let hh = header-high p in
-    let r = is-scope p (ap (λ (x : ℕ). x + 1) (c .before .before .before .before .before .before .before .before .before .header-length-in .ensures)) (c .before .before .before .before .before .before .before .before .field-length-in .ensures) (c .before .before .before .before .before .before .before .get .ensures) (c .before .before .before .before .before .before .get2 .ensures) in
-    let b : scopeIn p .start ≤ scopeIn p .end = rw (← r) (omega arith) in
-    let at = is-place p (ap (λ (x : ℕ). x + 1) (c .before .before .before .before .before .before .before .before .before .header-length-in .ensures)) (c .before .before .before .before .before .before .before .before .field-length-in .ensures) in
-    let y = is-requests p at (c .before .before .before .before .before .before .before .before .field-length-in .ensures) in
-    let q : requestsOutcome (requestsOf p) ≡ accepted [] = ap requestsOutcome (sym y) ∙ sym (c .before .before .before .before .check-packet .ensures) ∙ ap requestsCase (c .before .before .enum-told2 .given .1) in
-    let e = read-14 p (s .outcome) b q (c .before .if3 .taken) in
-    rw e (c .refused5 .ensures)
+    let d = c .before .before in
+    let q = p (startC (fromR d)) in
+    c .refused5 .ensures ∙ parsed-by q refusal.PduSize (rw (then-size d, lt-ltb 4096 (length q) (c .before .if3 .taken)))
 
 identity-in-requires : tie.Need-identity-in-requires
 identity-in-requires c κs =
-    let p = c .before .before .before .before .before .before .before .before .before .before .before .before .args .packet .now in
-    let s = shape-of p (sym (c .before .before .before .before .before .before .before .before .before .before .shape .ensures) ∙ c .before .before .before .before .before .before .before .before .before .if1 .left) in
-    let fl = field-low p in
-    let fh = field-high p in
-    let hh = header-high p in
-    (omega arith, omega arith)
-
-flag-in-requires : tie.Need-flag-in-requires
-flag-in-requires c κs =
-    let p = c .before .before .before .before .before .before .before .before .before .before .before .before .before .args .packet .now in
-    let s = shape-of p (sym (c .before .before .before .before .before .before .before .before .before .before .before .shape .ensures) ∙ c .before .before .before .before .before .before .before .before .before .before .if1 .left) in
-    let fl = field-low p in
-    let fh = field-high p in
-    let hh = header-high p in
-    omega arith
+    let b = fromR (c .before) in
+    let g = fromG (fromC b .before) in
+    (omega (arith, shapeC b .total), g .before .before .before .before .header-in .ensures)
 
 returns-6 : tie.Need-returns-6
-unfolding parsedOf acceptedParsed
 returns-6 c =
-    let p = c .before .before .before .before .before .before .before .before .before .before .before .before .before .before .args .packet .now in
-    let s = shape-of p (sym (c .before .before .before .before .before .before .before .before .before .before .before .before .shape .ensures) ∙ c .before .before .before .before .before .before .before .before .before .before .before .if1 .left) in
-    let fl = field-low p in
-    let fh = field-high p in
-    let hh = header-high p in
-    let r = is-scope p (ap (λ (x : ℕ). x + 1) (c .before .before .before .before .before .before .before .before .before .before .header-length-in .ensures)) (c .before .before .before .before .before .before .before .before .before .field-length-in .ensures) (c .before .before .before .before .before .before .before .before .get .ensures) (c .before .before .before .before .before .before .before .get2 .ensures) in
-    let b : scopeIn p .start ≤ scopeIn p .end = rw (← r) (omega arith) in
-    let at = is-place p (ap (λ (x : ℕ). x + 1) (c .before .before .before .before .before .before .before .before .before .before .header-length-in .ensures)) (c .before .before .before .before .before .before .before .before .before .field-length-in .ensures) in
-    let y = is-requests p at (c .before .before .before .before .before .before .before .before .before .field-length-in .ensures) in
-    let q : requestsOutcome (requestsOf p) ≡ accepted [] = ap requestsOutcome (sym y) ∙ sym (c .before .before .before .before .before .check-packet .ensures) ∙ ap requestsCase (c .before .before .before .enum-told2 .given .1) in
-    let e = read-fine p (s .outcome) b q (omega arith) in
-    rw (e, ← r, ← at, c .before .identity-in .ensures, c .flag-in .ensures)
+    let d = c .before .before in
+    let b = fromR d in
+    let q = p (startC b) in
+    let g = fromG (fromC b .before) in
+    let e : readOutcome q ≡ accepted [] = rw (then-size d, le-ltb 4096 (length q) (omega (arith, c .before .if3 .left))) in
+    let flag = ap (λ (h : Header). h .flag) (g .before .before .before .before .header-in .ensures) in
+    is-parsed q (c .identity-in .ensures) flag (scope (fromC b .before)) (place g) ∙ sym (parsed-accepted q e)
 
 pub parse-spec : {M : Type 1} → statement M
 parse-spec =
     tie.close
     (tie.spec
-    shape-requires
     refused-requires
     returns
-    header-length-in-requires
+    header-in-requires
+    shape-requires
+    enum-known-shape
+    refused-requires-2
+    returns-2
+    enum-told
+    field-length-requires
     add-at
-    field-length-in-requires
     get-requires
     add-get
     get-requires-2
-    refused-requires-2
-    returns-2
+    refused-requires-3
+    returns-3
     mul-from
     add-from
     sub-check-packet
     mul-check-packet
     div-check-packet
     check-packet-requires
-    enum-known-answer
-    refused-requires-3
-    returns-3
-    enum-told
+    enum-known-found
     refused-requires-4
     returns-4
     enum-told-2
     refused-requires-5
     returns-5
     identity-in-requires
-    flag-in-requires
     returns-6)

@@ -13,86 +13,17 @@ wide-requires c κs = search needs
 with-one-requires : tie.Need-with-one-requires
 with-one-requires c κs = search needs
 
-enum-told : tie.Need-enum-told
-enum-told c = search needs
-
-bare-requires : tie.Need-bare-requires
-bare-requires c κs = search needs
-
 enum-known-a-2 : tie.Need-enum-known-a-2
 enum-known-a-2 c = search needs
 
-with-two-requires : tie.Need-with-two-requires
-with-two-requires c κs = search needs
-
-enum-known-a-3 : tie.Need-enum-known-a-3
-enum-known-a-3 c = search needs
-
-wide-requires-2 : tie.Need-wide-requires-2
-wide-requires-2 c κs = search needs
-
-wide-requires-3 : tie.Need-wide-requires-3
-wide-requires-3 c κs = search needs
-
-with-two-requires-2 : tie.Need-with-two-requires-2
-with-two-requires-2 c κs = search needs
-
-enum-told-2 : tie.Need-enum-told-2
-enum-told-2 c = search needs
-
-bare-requires-2 : tie.Need-bare-requires-2
-bare-requires-2 c κs = search needs
-
-enum-told-3 : tie.Need-enum-told-3
-enum-told-3 c = search needs
-
-bare-requires-3 : tie.Need-bare-requires-3
-bare-requires-3 c κs = search needs
-
-enum-told-4 : tie.Need-enum-told-4
-enum-told-4 c = search needs
-
-bare-requires-4 : tie.Need-bare-requires-4
-bare-requires-4 c κs = search needs
-
-enum-told-5 : tie.Need-enum-told-5
-enum-told-5 c = search needs
-
-bare-requires-5 : tie.Need-bare-requires-5
-bare-requires-5 c κs = search needs
-
-enum-told-6 : tie.Need-enum-told-6
-enum-told-6 c = search needs
-
-bare-requires-6 : tie.Need-bare-requires-6
-bare-requires-6 c κs = search needs
+of-refusal-requires : tie.Need-of-refusal-requires
+of-refusal-requires c κs = search needs
 
 returns : tie.Need-returns
 returns c = rw (c .before .before .before .a .given .1, sym (c .before .wide .ensures)) (c .with-one .ensures)
 
 returns-2 : tie.Need-returns-2
-returns-2 c = rw (c .before .enum-told .given .1) (c .bare .ensures)
-
-returns-3 : tie.Need-returns-3
-returns-3 c = rw (c .before .before .a2 .given .1) (c .with-two .ensures)
-
-returns-4 : tie.Need-returns-4
-returns-4 c = rw (c .before .before .before .before .a3 .given .1, sym (c .before .wide3 .ensures), sym (c .before .before .wide2 .ensures)) (c .with-two2 .ensures)
-
-returns-5 : tie.Need-returns-5
-returns-5 c = rw (c .before .enum-told2 .given .1) (c .bare2 .ensures)
-
-returns-6 : tie.Need-returns-6
-returns-6 c = rw (c .before .enum-told3 .given .1) (c .bare3 .ensures)
-
-returns-7 : tie.Need-returns-7
-returns-7 c = rw (c .before .enum-told4 .given .1) (c .bare4 .ensures)
-
-returns-8 : tie.Need-returns-8
-returns-8 c = rw (c .before .enum-told5 .given .1) (c .bare5 .ensures)
-
-returns-9 : tie.Need-returns-9
-returns-9 c = rw (c .before .enum-told6 .given .1) (c .bare6 .ensures)
+returns-2 c = rw (c .before .before .a2 .given .1) (c .of-refusal .ensures)
 
 pub of-write-spec : {M : Type 1} → statement M
 of-write-spec =
@@ -101,30 +32,7 @@ of-write-spec =
     enum-known-a
     wide-requires
     with-one-requires
-    enum-told
-    bare-requires
     enum-known-a-2
-    with-two-requires
-    enum-known-a-3
-    wide-requires-2
-    wide-requires-3
-    with-two-requires-2
-    enum-told-2
-    bare-requires-2
-    enum-told-3
-    bare-requires-3
-    enum-told-4
-    bare-requires-4
-    enum-told-5
-    bare-requires-5
-    enum-told-6
-    bare-requires-6
+    of-refusal-requires
     returns
-    returns-2
-    returns-3
-    returns-4
-    returns-5
-    returns-6
-    returns-7
-    returns-8
-    returns-9)
+    returns-2)

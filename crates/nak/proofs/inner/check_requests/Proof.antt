@@ -1,7 +1,12 @@
 -- `nak::inner::check_requests` meets its contract. The loop's invariant: the outcome of the requests ahead is that of all.
 use Rattle.nak.proofs.Requests.{late-start, empty-one, fine-one, not-first}
 use Rattle.nak.proofs.Flat.{pairs-turn, pairs-short}
-use Rattle.nak.specs.Request.{requestsFrom, requestsOutcome}
+use Rattle.nak.specs.Request.{checksFrom}
+use Rattle.outcomes.specs.Outcome.{Outcome, accepted}
+use Rattle.outcomes.specs.Checks.{firstOf}
+use Rattle.ranges.specs.Range.{Range}
+use mathlib.Core.Bool.{Bool, true}
+use mathlib.Core.List.{List, []}
 use Rattle.ranges.specs.Store.{pairs}
 use lib.ListN.{length-drop}
 use lib.Dec.{eqb}
@@ -13,8 +18,12 @@ use lib.ListN.{drop}
 use Rattle.nak.proofs.inner.check_requests.Statement.{statement}
 use Rattle.nak.proofs.inner.check_requests.Tie as tie
 
+-- what the checks of requests say
+abbrev said : Bool → List Range → Outcome
+said first rs = firstOf (checksFrom first rs) (accepted [])
+
 abbrev Inv-loop : tie.InvT-loop
-Inv-loop requests count i₀ i = (i ≤ count) × (requestsFrom (eqb i 0) (pairs (drop (2 * i) requests)) ≡ requestsOutcome (pairs requests))
+Inv-loop requests count i₀ i = (i ≤ count) × (said (eqb i 0) (pairs (drop (2 * i) requests)) ≡ said true (pairs requests))
 
 abbrev μ-loop : tie.MeasureT-loop
 μ-loop requests count i₀ i = count - i
@@ -48,7 +57,7 @@ returns c =
     let l = c .before .before .before .before .loop in
     let a = c .before .before .before .before .before .before .args in
     let t = pairs-turn (a .requests .now) (l .i) (omega arith) in
-    sym (late-start (eqb (l .i) 0) t (c .if1 .taken)) ∙ l .inv .1
+    sym (late-start (eqb (l .i) 0) (accepted []) t (c .if1 .taken)) ∙ l .inv .1
 
 is-empty-requires : tie.Need-is-empty-requires Inv-loop μ-loop
 is-empty-requires c κs = search needs
@@ -58,7 +67,7 @@ returns-2 c =
     let l = c .before .before .before .before .before .before .loop in
     let a = c .before .before .before .before .before .before .before .before .args in
     let t = pairs-turn (a .requests .now) (l .i) (omega arith) in
-    sym (empty-one (eqb (l .i) 0) t (omega arith) (sym (c .before .is-empty .ensures) ∙ c .if2 .taken)) ∙ l .inv .1
+    sym (empty-one (eqb (l .i) 0) (accepted []) t (omega arith) (sym (c .before .is-empty .ensures) ∙ c .if2 .taken)) ∙ l .inv .1
 
 add-i : tie.Need-add-i Inv-loop μ-loop
 add-i c = search needs
@@ -71,7 +80,7 @@ loop-again c =
     let l = c .before .before .before .before .before .before .loop in
     let a = c .before .before .before .before .before .before .before .before .args in
     let t = pairs-turn (a .requests .now) (l .i) (omega arith) in
-    (search needs, rw not-first (sym (fine-one (eqb (l .i) 0) t (omega arith) (sym (c .before .is-empty .ensures) ∙ c .if2 .left)) ∙ l .inv .1))
+    (search needs, rw not-first (sym (fine-one (eqb (l .i) 0) (accepted []) t (omega arith) (sym (c .before .is-empty .ensures) ∙ c .if2 .left)) ∙ l .inv .1))
 
 returns-3 : tie.Need-returns-3 Inv-loop μ-loop
 returns-3 c =

@@ -3,7 +3,12 @@ use native.Mathlib.Nat.{mul-zero, mul-suc, add-zero, sub-zero}
 use Rattle.nak.proofs.Requests.{late-start, empty-one, fine-one, not-first}
 use Rattle.nak_parser.proofs.Turn.{packet-turn}
 use Rattle.nak_parser.specs.Parser.{requestsIn}
-use Rattle.nak.specs.Request.{requestsFrom, requestsOutcome}
+use Rattle.nak.specs.Request.{checksFrom}
+use Rattle.outcomes.specs.Outcome.{Outcome, accepted}
+use Rattle.outcomes.specs.Checks.{firstOf}
+use Rattle.ranges.specs.Range.{Range}
+use mathlib.Core.Bool.{Bool, true}
+use mathlib.Core.List.{List, []}
 use Rattle.octets.proofs.Turns.{room-all}
 use native.Mathlib.Numerals.{add-one}
 use lib.Dec.{eqb}
@@ -15,8 +20,12 @@ use lib.ListN.{drop}
 use Rattle.nak_parser.proofs.inner.check_packet.Statement.{statement}
 use Rattle.nak_parser.proofs.inner.check_packet.Tie as tie
 
+-- what the checks of requests say
+abbrev said : Bool → List Range → Outcome
+said first rs = firstOf (checksFrom first rs) (accepted [])
+
 abbrev Inv-loop : tie.InvT-loop
-Inv-loop packet from f count at₀ i₀ at i = (i ≤ count) × (at ≡ from + 2 * f * i) × (requestsFrom (eqb i 0) (requestsIn f (count - i) (drop at packet)) ≡ requestsOutcome (requestsIn f count (drop from packet)))
+Inv-loop packet from f count at₀ i₀ at i = (i ≤ count) × (at ≡ from + 2 * f * i) × (said (eqb i 0) (requestsIn f (count - i) (drop at packet)) ≡ said true (requestsIn f count (drop from packet)))
 
 abbrev μ-loop : tie.MeasureT-loop
 μ-loop packet from f count at₀ i₀ at i = count - i
@@ -53,7 +62,7 @@ returns c =
     let m : a .count - l .i ≡ suc (a .count - (l .i + 1)) = omega arith in
     let t = packet-turn (a .packet .now) (l .at) (a .f) (a .count - (l .i + 1)) (c .before .before .get .ensures) (c .before .get2 .ensures) in
     let v = rw m at (l .inv .2) in
-    sym (late-start (eqb (l .i) 0) t (c .if1 .taken)) ∙ v
+    sym (late-start (eqb (l .i) 0) (accepted []) t (c .if1 .taken)) ∙ v
 
 is-empty-requires : tie.Need-is-empty-requires Inv-loop μ-loop
 is-empty-requires c κs = search needs
@@ -66,7 +75,7 @@ returns-2 c =
     let m : a .count - l .i ≡ suc (a .count - (l .i + 1)) = omega arith in
     let t = packet-turn (a .packet .now) (l .at) (a .f) (a .count - (l .i + 1)) (c .before .before .before .before .get .ensures) (c .before .before .before .get2 .ensures) in
     let v = rw m at (l .inv .2) in
-    sym (empty-one (eqb (l .i) 0) t (omega arith) (sym (c .before .is-empty .ensures) ∙ c .if2 .taken)) ∙ v
+    sym (empty-one (eqb (l .i) 0) (accepted []) t (omega arith) (sym (c .before .is-empty .ensures) ∙ c .if2 .taken)) ∙ v
 
 mul-at : tie.Need-mul-at Inv-loop μ-loop
 mul-at c = search needs
@@ -92,7 +101,7 @@ loop-again c =
     let m : a .count - l .i ≡ suc (a .count - (l .i + 1)) = omega arith in
     let t = packet-turn (a .packet .now) (l .at) (a .f) (a .count - (l .i + 1)) (c .before .before .before .before .get .ensures) (c .before .before .before .get2 .ensures) in
     let v = rw m at (l .inv .2) in
-    (search needs, rw (add-one, mul-suc) (omega arith), rw not-first (sym (fine-one (eqb (l .i) 0) t (omega arith) (sym (c .before .is-empty .ensures) ∙ c .if2 .left)) ∙ v))
+    (search needs, rw (add-one, mul-suc) (omega arith), rw not-first (sym (fine-one (eqb (l .i) 0) (accepted []) t (omega arith) (sym (c .before .is-empty .ensures) ∙ c .if2 .left)) ∙ v))
 
 returns-3 : tie.Need-returns-3 Inv-loop μ-loop
 returns-3 c =

@@ -1,82 +1,65 @@
 -- `nak_parser::inner::identity_in` meets its contract: three fields, one behind the other.
-use Rattle.nak_parser.proofs.Reading.{entity-high, number-high, header-is}
-use Rattle.nak_parser.specs.Parser.{identityIn}
 use native.Mathlib.Omega.{arith}
+use Prim.Native.Nat.{ℕ, _+_, _*_, _≤_}
+use mathlib.Core.Path.{_≡_, ap}
+use mathlib.Core.List.{List}
+use lib.ListN.{length}
+use Rattle.nak_parser.specs.Parser.{headerIn}
+use Rattle.nak_parser.specs.declared.inner.Header.{Header}
+use Rattle.nak_parser.proofs.Reading.{entity-high, number-high, header-is, is-identity}
 use borrow.Author.Needs.{needs}
+use native.Mathlib.Omega.{arith}
+use Prim.Native.Nat.{ℕ, suc, _+_, _*_, _-_, _≤_, _<_}
+use mathlib.Core.Path.{_≡_, refl, sym, ap, _∙_}
+use lib.ListN.{length, getD, take, drop, set}
 use Rattle.nak_parser.proofs.inner.identity_in.Statement.{statement}
 use Rattle.nak_parser.proofs.inner.identity_in.Tie as tie
 
-entity-length-in-requires : tie.Need-entity-length-in-requires
-entity-length-in-requires c κs = search needs
+-- the packet and its header
+abbrev p : tie.Start → List ℕ
+p s = s .args .packet .now
 
-number-length-in-requires : tie.Need-number-length-in-requires
-number-length-in-requires c κs = search needs
+abbrev header : tie.Start → Header
+header s = s .args .header
+
+entity : (s : tie.Start) → header s .«entity_length» ≡ headerIn (p s) .«entity_length»
+entity s = ap (λ (h : Header). h .«entity_length») (s .pre .1)
+
+numbers : (s : tie.Start) → header s .«number_length» ≡ headerIn (p s) .«number_length»
+numbers s = ap (λ (h : Header). h .«number_length») (s .pre .1)
+
+-- there is room for the three
+room : (s : tie.Start) → (4 + 2 * (header s .«entity_length») + header s .«number_length» ≤ length (p s)) × ((header s .«entity_length» ≤ 8) × (header s .«number_length» ≤ 8))
+room s =
+    let h = header-is (p s) in
+    let i = entity s in
+    let q = numbers s in
+    (omega (arith, s .pre .0), (omega (arith, entity-high (p s)), omega (arith, number-high (p s))))
 
 get-requires : tie.Need-get-requires
-get-requires c κs =
-    let p = c .before .before .before .args .packet .now in
-    let eh = entity-high p in
-    let nh = number-high p in
-    let h = header-is p in
-    omega arith
+get-requires c κs = omega (arith, room (c .before))
 
 add-get : tie.Need-add-get
-add-get c =
-    let p = c .before .before .before .before .args .packet .now in
-    let eh = entity-high p in
-    let nh = number-high p in
-    let h = header-is p in
-    omega arith
+add-get c = omega (arith, room (c .before .before))
 
 get-requires-2 : tie.Need-get-requires-2
-get-requires-2 c κs =
-    let p = c .before .before .before .before .args .packet .now in
-    let eh = entity-high p in
-    let nh = number-high p in
-    let h = header-is p in
-    omega arith
+get-requires-2 c κs = omega (arith, room (c .before .before))
 
 add-get-2 : tie.Need-add-get-2
-add-get-2 c =
-    let p = c .before .before .before .before .before .args .packet .now in
-    let eh = entity-high p in
-    let nh = number-high p in
-    let h = header-is p in
-    omega arith
+add-get-2 c = omega (arith, room (c .before .before .before))
 
 add-get-3 : tie.Need-add-get-3
-add-get-3 c =
-    let p = c .before .before .before .before .before .args .packet .now in
-    let eh = entity-high p in
-    let nh = number-high p in
-    let h = header-is p in
-    omega arith
+add-get-3 c = omega (arith, room (c .before .before .before))
 
 get-requires-3 : tie.Need-get-requires-3
-get-requires-3 c κs =
-    let p = c .before .before .before .before .before .args .packet .now in
-    let eh = entity-high p in
-    let nh = number-high p in
-    let h = header-is p in
-    omega arith
+get-requires-3 c κs = omega (arith, room (c .before .before .before))
 
 returns : tie.Need-returns
-unfolding identityIn
 returns c =
-    let i = c .before .before .before .before .entity-length-in .ensures in
-    let q = c .before .before .before .number-length-in .ensures in
-    rw (c .before .before .get .ensures, c .before .get2 .ensures, c .get3 .ensures, i, q)
+    let s = c .before .before .before .before in
+    is-identity (p s) (entity s) (numbers s) (c .before .before .get .ensures) (c .before .get2 .ensures) (c .get3 .ensures)
 
 pub identity-in-spec : {M : Type 1} → statement M
 identity-in-spec =
     tie.close
-    (tie.spec
-    entity-length-in-requires
-    number-length-in-requires
-    get-requires
-    add-get
-    get-requires-2
-    add-get-2
-    add-get-3
-    get-requires-3
-    returns)
+    (tie.spec get-requires add-get get-requires-2 add-get-2 add-get-3 get-requires-3 returns)
