@@ -6,9 +6,9 @@ use state::State;
 
 mod answers;
 mod commands;
-mod events;
 mod pdus;
 mod print;
+mod receiving;
 mod state;
 mod store;
 mod words;
