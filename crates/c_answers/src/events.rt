@@ -6,6 +6,7 @@ ghost use Rattle.c_answers.specs.Answer.{answerOf};
 use crate::PusmarkeAnswer;
 use crate::inner::bare;
 use crate::inner::with_one;
+use crate::refusal::of_refusal;
 use reception::data::DataAnswer;
 use reception::metadata::MetadataAnswer;
 
@@ -15,13 +16,7 @@ pub fn of_data(a: DataAnswer) -> PusmarkeAnswer
     match a {
         DataAnswer::Noticed => with_one(0, 0),
         DataAnswer::Kept => with_one(0, 1),
-        DataAnswer::BadStore => bare(10),
-        DataAnswer::NotCoalesced => bare(8),
-        DataAnswer::ScopeBelowList => bare(12),
-        DataAnswer::EmptySegment => bare(2),
-        DataAnswer::RangeTooLong => bare(9),
-        DataAnswer::LargeFileSegmentNotSupported => bare(4),
-        DataAnswer::StoreFull => bare(1),
+        DataAnswer::Refused(r) => of_refusal(r),
     }
 }
 
@@ -30,9 +25,6 @@ pub fn of_metadata(a: MetadataAnswer) -> PusmarkeAnswer
 {
     match a {
         MetadataAnswer::Known => bare(0),
-        MetadataAnswer::BadStore => bare(10),
-        MetadataAnswer::NotCoalesced => bare(8),
-        MetadataAnswer::ScopeBelowList => bare(12),
-        MetadataAnswer::AlreadyKnown => bare(19),
+        MetadataAnswer::Refused(r) => of_refusal(r),
     }
 }

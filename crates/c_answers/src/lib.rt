@@ -1,4 +1,4 @@
-// The answers of the calls as C's numbers: a function for each answer enum.
+// The answers of the calls as C's numbers: a function for each answer enum, and one for the refusals.
 pub mod events; // events.rt: of the data event and of the metadata event
 pub mod inner; // inner.rt: an answer with so many values
 pub mod pdu; // pdu.rt: of writing one NAK PDU

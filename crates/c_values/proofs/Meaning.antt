@@ -5,7 +5,7 @@ use mathlib.Core.List.{List}
 use Prim.Native.Nat.{ℕ}
 use lib.Dec.{eqb}
 use borrow.Author.Tests.{eqb-true}
-use Rattle.reception.specs.Record.{freshRecord, recordOf}
+use Rattle.reception.specs.Record.{freshRecord, moved, known}
 use Rattle.reception.specs.Data.{dataOutcome, dataRecord, advanced}
 use Rattle.reception.specs.Metadata.{metadataOutcome, metadataRecord}
 use Rattle.c_values.specs.Input.{isSet, widthIn, recordIn}
@@ -17,7 +17,7 @@ fresh-means narrow = refl
 
 -- a record with C's width and mark, or C's own
 data-stands : (t : Bool) (c : PusmarkeReception) (p n : ℕ)
-    → recordIn (advancedTo (cond t (recordOf p n (widthIn (c .narrow)) (isSet (c .missing))) (recordIn c)) c) ≡ cond t (recordOf p n (widthIn (c .narrow)) (isSet (c .missing))) (recordIn c)
+    → recordIn (advancedTo (cond t (moved (recordIn c) p n) (recordIn c)) c) ≡ cond t (moved (recordIn c) p n) (recordIn c)
 data-stands true c p n = refl
 data-stands false c p n = refl
 
@@ -41,7 +41,7 @@ pub data-refused : (c : PusmarkeReception) → advancedTo (recordIn c) c ≡ c
 data-refused c = refl
 
 metadata-stands : (t : Bool) (c : PusmarkeReception)
-    → recordIn (markedBy (cond t (recordOf (c .progress) (c .count) (widthIn (c .narrow)) false) (recordIn c)) c) ≡ cond t (recordOf (c .progress) (c .count) (widthIn (c .narrow)) false) (recordIn c)
+    → recordIn (markedBy (cond t (known (recordIn c)) (recordIn c)) c) ≡ cond t (known (recordIn c)) (recordIn c)
 metadata-stands true c = refl
 metadata-stands false c = rw (mark-stays (c .missing)) refl
 

@@ -8,7 +8,6 @@ use Rattle.octets.specs.declared.LargeFileFlag.{LargeFileFlag}
 use Rattle.octets.specs.declared.LargeFileFlag.the-variants.{Normal, Large}
 use Rattle.lost_segments.specs.declared.Store.{Store}
 use Rattle.reception.specs.declared.Reception.{Reception}
-use Rattle.reception.specs.Record.{recordOf}
 use Rattle.nak.specs.declared.Identity.{Identity}
 use Rattle.c_values.specs.declared.PusmarkeReception.{PusmarkeReception}
 use Rattle.c_values.specs.declared.PusmarkeIdentity.{PusmarkeIdentity}
@@ -28,7 +27,7 @@ abbrev pub storeOf : ℕ → ℕ → Store
 storeOf count narrow = record { count = count; width = widthIn narrow }
 
 abbrev pub recordIn : PusmarkeReception → Reception
-recordIn rec = recordOf (rec .progress) (rec .count) (widthIn (rec .narrow)) (isSet (rec .missing))
+recordIn rec = record { progress = rec .progress; count = rec .count; width = widthIn (rec .narrow); missing = isSet (rec .missing) }
 
 abbrev pub identityIn : PusmarkeIdentity → Identity
 identityIn d =

@@ -18,25 +18,25 @@ use Rattle.c_values.specs.declared.PusmarkeStep.{PusmarkeStep}
 abbrev pub markOf : Bool → ℕ
 markOf on = cond on 1 0
 
--- C's record of these four numbers.
-abbrev pub numbers : ℕ → ℕ → ℕ → ℕ → PusmarkeReception
-numbers progress count narrow missing = record { progress = progress; count = count; narrow = narrow; missing = missing }
-
 -- A record as C's, with the number `narrow` for its width.
 abbrev pub recordOut : ℕ → Reception → PusmarkeReception
-recordOut narrow rec = numbers (rec .progress) (rec .count) narrow (markOf (rec .missing))
+recordOut narrow rec = record { progress = rec .progress; count = rec .count; narrow = narrow; missing = markOf (rec .missing) }
 
--- C's record after a data event that leaves the record `new`: its progress and count. Narrow and missing stay as handed over.
+-- C's record after a data event that leaves the record `new`: its progress and count; the rest stays as handed over.
 abbrev pub advancedTo : Reception → PusmarkeReception → PusmarkeReception
-advancedTo new rec = numbers (new .progress) (new .count) (rec .narrow) (rec .missing)
+advancedTo new rec = record { progress = new .progress; count = new .count; narrow = rec .narrow; missing = rec .missing }
 
 -- C's mark after a metadata event: as handed over while metadata is missing, and then 0.
 abbrev pub markAfter : ℕ → Bool → ℕ
 markAfter missing still = cond still missing 0
 
+-- C's record with another mark.
+abbrev pub marked : PusmarkeReception → ℕ → PusmarkeReception
+marked rec mark = record { progress = rec .progress; count = rec .count; narrow = rec .narrow; missing = mark }
+
 -- C's record after a metadata event that leaves the record `new`: only the mark may change.
 abbrev pub markedBy : Reception → PusmarkeReception → PusmarkeReception
-markedBy new rec = numbers (rec .progress) (rec .count) (rec .narrow) (markAfter (rec .missing) (new .missing))
+markedBy new rec = marked rec (markAfter (rec .missing) (new .missing))
 
 -- The large file flag: 0 is normal, 1 is large.
 abbrev pub flagOut : LargeFileFlag → ℕ

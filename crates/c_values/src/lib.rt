@@ -1,7 +1,7 @@
 // C's values: what the numbers that C hands over stand for, and what it is handed back besides answers.
-pub mod events; // events.rt: the two events on the numbers of C's record
 pub mod inner; // inner.rt: C's numbers read as the calls' types
 pub mod pdu; // pdu.rt: what reading and a step hand back
+pub mod record_events; // record_events.rt: the two events on C's record
 
 // The record of a reception. Of `narrow` and `missing`, 0 is no and any other number is yes.
 #[repr(C)]

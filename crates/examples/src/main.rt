@@ -139,6 +139,18 @@ fn show_damaged(packet: [u8; 32], at: usize, octet: u8, also: usize, other: u8) 
     show_packet(&copy);
 }
 
+// The number refused, where it is that of the PDU's size.
+fn show_refused(r: Refusal) {
+    match r {
+        Refusal::PduSize => {
+            write_all(STDOUT_FILENO, b"refused 14");
+        }
+        _ => {
+            write_all(STDOUT_FILENO, b"refused");
+        }
+    }
+}
+
 // The sequence of five ranges in PDUs of at most `largest` octets: how many PDUs, octets and the cursor, or the number refused.
 fn write_sequence(largest: usize, buf: &mut [u8]) {
     let list: [u64; 10] = [0, 1, 2, 3, 4, 5, 6, 7, 8, 9];
@@ -166,12 +178,7 @@ fn write_sequence(largest: usize, buf: &mut [u8]) {
             show_number(octets as u64);
             show_number(cursor as u64);
         }
-        SequenceAnswer::PduSize => {
-            write_all(STDOUT_FILENO, b"refused 14");
-        }
-        _ => {
-            write_all(STDOUT_FILENO, b"refused");
-        }
+        SequenceAnswer::Refused(r) => show_refused(r),
     }
     end_line();
 }

@@ -1,95 +1,88 @@
--- The sequence's answer at each end of its checks, and what the answer leaves in the buffer.
+-- The sequence's answer where no check is met, and what each answer leaves in the buffer; the tests of 14 and of 7.
 use native.Mathlib.Omega.{arith}
-use mathlib.Core.Path.{_≡_, ap, _∙_}
-use mathlib.Core.Bool.{true, false, cond}
+use mathlib.Core.Path.{_≡_, sym, ap, _∙_}
+use mathlib.Core.Bool.{true, false, _||_}
 use mathlib.Core.List.{List, [], _∷_, _++_}
 use Prim.Native.Nat.{ℕ, _+_, _*_, _≤_, _<_}
 use lib.ListN.{length, take, drop}
 use lib.Dec.{ltb}
-use borrow.Author.Tests.{lt-ltb, le-ltb}
-use Rattle.outcomes.specs.Named as to
+use borrow.Author.Tests.{ltb-false, lt-ltb, le-ltb}
 use Rattle.outcomes.specs.Outcome.{Outcome, accepted, lent}
+use Rattle.outcomes.specs.Refusal.{refusing}
+use Rattle.outcomes.specs.Checks.{NoneOf}
+use Rattle.outcomes.specs.declared.Refusal.{Refusal}
+use Rattle.outcomes.proofs.Refusals.{lent-refused}
+use Rattle.outcomes.proofs.FirstOf.{first-none}
 use Rattle.ranges.specs.Range.{lastEnd}
 use Rattle.ranges.specs.Store.{counted, anyAbove}
 use Rattle.ranges.proofs.Last.{above-counted}
-use Rattle.ranges.proofs.Test.{coalesced-of}
 use Rattle.octets.specs.declared.LargeFileFlag.{LargeFileFlag}
 use Rattle.octets.specs.Flag.{fieldLength, largestOf}
 use Rattle.nak.specs.Writer.{isBadIdentity}
-use Rattle.reception.specs.Record.{Passed}
+use Rattle.reception.specs.Record.{recordChecks, Passed}
 use Rattle.reception.specs.declared.Reception.{Reception}
-use Rattle.reception.proofs.Sound.{sound, checked-passed}
-use Rattle.nak_sequence.specs.Sequence.{Order, headerOf, isBadSize, isTooLarge, asked, pduCount, sent, newCursor, sequenceOutcome, sequenceBuffer}
+use Rattle.reception.proofs.Sound.{sound, none-split, none-join}
+use Rattle.nak_sequence.specs.Sequence.{Order, headerOf, largestPdu, largestBudget, isBadSize, isTooLarge, asked, pduCount, sent, newCursor, orderChecks, sequenceChecks, sequenceOutcome, sequenceBuffer}
+
+-- no check of a call is met, in numbers
+pub record Checked (rec : Reception) (xs : List ℕ) (o : Order) (given : ℕ) : Type 0 where
+  pub passed : Passed xs rec
+  pub identity : isBadIdentity (o .identity) ≡ false
+  pub size : isBadSize o ≡ false
+  pub large : isTooLarge rec xs (o .flag) ≡ false
+  pub cursor : o .cursor ≤ length (asked rec xs o .entries)
+  pub budget : o .budget ≤ largestBudget
+  pub room : o .budget * o .largest ≤ given
+
+pub checked : (rec : Reception) (xs : List ℕ) (o : Order) (given : ℕ) → NoneOf (sequenceChecks rec xs o given) → Checked rec xs o given
+checked rec xs o given n =
+    let w = none-split (recordChecks rec xs) (orderChecks rec xs o given) n in
+    let v = w .1 in
+    record {
+      passed = w .0;
+      identity = v .0;
+      size = v .1 .0;
+      large = v .1 .1 .0;
+      cursor = ltb-false _ _ (v .1 .1 .1 .0);
+      budget = ltb-false _ _ (v .1 .1 .1 .1 .0);
+      room = ltb-false _ _ (v .1 .1 .1 .1 .1 .0);
+    }
+
+-- and back
+pub none-met : (rec : Reception) (xs : List ℕ) (o : Order) (given : ℕ) → Checked rec xs o given → NoneOf (sequenceChecks rec xs o given)
+none-met rec xs o given k =
+    none-join (recordChecks rec xs) (orderChecks rec xs o given) (k .passed)
+    (k .identity, (k .size, (k .large, (le-ltb _ _ (k .cursor), (le-ltb _ _ (k .budget), (le-ltb _ _ (k .room), tt))))))
 
 module _ (rec : Reception) (xs : List ℕ) (o : Order) (buf : List ℕ) where
-  abbrev new : List ℕ
-  new = sent (asked rec xs o) o ++ drop (length (sent (asked rec xs o) o)) buf
-
-  -- an answer, and what it leaves
-  pub answer : (p : Outcome) → p ≡ sequenceOutcome rec xs o (length buf)
-      → (p ≡ sequenceOutcome rec xs o (length buf)) × (lent p new buf ≡ sequenceBuffer rec xs o buf)
-  answer p e = (e, ap (λ (q : Outcome). lent q new buf) e)
-
-  abbrev done : Outcome
+  -- what is sent, and the buffer behind it
+  abbrev pub done : Outcome
   done = accepted (pduCount (asked rec xs o) o ∷ length (sent (asked rec xs o) o) ∷ newCursor (asked rec xs o) o ∷ [])
 
-  -- the outcome behind checks 10, 8 and 12
-  abbrev pub rest : Outcome
-  rest =
-      cond (isBadIdentity (o .identity)) to.badIdentity
-      (cond (isBadSize o) to.pduSize
-      (cond (isTooLarge rec xs (o .flag)) to.largeSegmentForNormalFileSize
-      (cond (ltb (length (asked rec xs o .entries)) (o .cursor)) to.badCursor
-      (cond (ltb 16 (o .budget)) to.budgetTooLarge
-      (cond (ltb (length buf) (o .budget * o .largest)) (to.bufferSizeMissmatch (o .budget * o .largest) (length buf)) done)))))
+  abbrev pub new : List ℕ
+  new = sent (asked rec xs o) o ++ drop (length (sent (asked rec xs o) o)) buf
 
-  module _ (p : Passed xs rec) where
-    from : (q : Outcome) → q ≡ rest → q ≡ sequenceOutcome rec xs o (length buf)
-    from q e = e ∙ checked-passed xs rec rest p
+  -- what is said of an answer: its outcome, and the buffer that it leaves
+  abbrev pub Ends : Outcome → List ℕ → Type 0
+  Ends p l = (p ≡ sequenceOutcome rec xs o (length buf)) × (l ≡ sequenceBuffer rec xs o buf)
 
-    pub seq-identity : isBadIdentity (o .identity) ≡ true → to.badIdentity ≡ sequenceOutcome rec xs o (length buf)
-    seq-identity a = from to.badIdentity (rw a)
+  left : (p : Outcome) → p ≡ sequenceOutcome rec xs o (length buf) → lent p new buf ≡ sequenceBuffer rec xs o buf
+  left p e = ap (λ (q : Outcome). lent q new buf) e
 
-    module _ (a : isBadIdentity (o .identity) ≡ false) where
-      pub seq-size : isBadSize o ≡ true → to.pduSize ≡ sequenceOutcome rec xs o (length buf)
-      seq-size b = from to.pduSize (rw (a, b))
+  -- a refusal leaves the buffer as it was
+  pub refused-by : (r : Refusal) → refusing r ≡ sequenceOutcome rec xs o (length buf) → Ends (refusing r) buf
+  refused-by r e = (e, sym (lent-refused r new buf) ∙ left (refusing r) e)
 
-      module _ (b : isBadSize o ≡ false) where
-        pub seq-large : isTooLarge rec xs (o .flag) ≡ true → to.largeSegmentForNormalFileSize ≡ sequenceOutcome rec xs o (length buf)
-        seq-large c = from to.largeSegmentForNormalFileSize (rw (a, b, c))
+  pub seq-sent : Checked rec xs o (length buf) → done ≡ sequenceOutcome rec xs o (length buf)
+  seq-sent k = sym (first-none (sequenceChecks rec xs o (length buf)) done (none-met rec xs o (length buf) k))
 
-        module _ (c : isTooLarge rec xs (o .flag) ≡ false) where
-          pub seq-cursor : length (asked rec xs o .entries) < o .cursor → to.badCursor ≡ sequenceOutcome rec xs o (length buf)
-          seq-cursor d = from to.badCursor (rw (a, b, c, lt-ltb (length (asked rec xs o .entries)) (o .cursor) d))
-
-          module _ (d : o .cursor ≤ length (asked rec xs o .entries)) where
-            pub seq-budget : 16 < o .budget → to.budgetTooLarge ≡ sequenceOutcome rec xs o (length buf)
-            seq-budget e = from to.budgetTooLarge (rw (a, b, c, le-ltb (length (asked rec xs o .entries)) (o .cursor) d, lt-ltb 16 (o .budget) e))
-
-            module _ (e : o .budget ≤ 16) where
-              pub seq-buffer : length buf < o .budget * o .largest → to.bufferSizeMissmatch (o .budget * o .largest) (length buf) ≡ sequenceOutcome rec xs o (length buf)
-              seq-buffer f =
-                  from (to.bufferSizeMissmatch (o .budget * o .largest) (length buf))
-                  (rw (a, b, c, le-ltb (length (asked rec xs o .entries)) (o .cursor) d, le-ltb 16 (o .budget) e, lt-ltb (length buf) (o .budget * o .largest) f))
-
-              pub seq-sent : o .budget * o .largest ≤ length buf → done ≡ sequenceOutcome rec xs o (length buf)
-              seq-sent f =
-                  from done
-                  (rw (a, b, c, le-ltb (length (asked rec xs o .entries)) (o .cursor) d, le-ltb 16 (o .budget) e, le-ltb (length buf) (o .budget * o .largest) f))
+  pub sent-by : Checked rec xs o (length buf) → Ends done new
+  sent-by k = let e = seq-sent k in (e, left done e)
 
 -- the tests of 14 and of 7
-module _ (o : Order) where
-  pub size-high : 4096 < o .largest → isBadSize o ≡ true
-  unfolding isBadSize
-  size-high h = rw (lt-ltb 4096 (o .largest) h)
-
-  pub size-low : o .largest ≤ 4096 → o .largest < headerOf o + 1 + 4 * fieldLength (o .flag) → isBadSize o ≡ true
-  unfolding isBadSize
-  size-low h k = rw (le-ltb 4096 (o .largest) h, lt-ltb (o .largest) (headerOf o + 1 + 4 * fieldLength (o .flag)) k)
-
-  pub size-fine : o .largest ≤ 4096 → headerOf o + 1 + 4 * fieldLength (o .flag) ≤ o .largest → isBadSize o ≡ false
-  unfolding isBadSize
-  size-fine h k = rw (le-ltb 4096 (o .largest) h, le-ltb (o .largest) (headerOf o + 1 + 4 * fieldLength (o .flag)) k)
+pub size-of : (o : Order) (h f : ℕ) → h ≡ headerOf o → f ≡ fieldLength (o .flag) → (ltb largestPdu (o .largest) || ltb (o .largest) (h + 1 + 4 * f)) ≡ isBadSize o
+unfolding isBadSize
+size-of o h f a b = rw (a, b)
 
 module _ (rec : Reception) (xs : List ℕ) (g : LargeFileFlag) where
   pub large-progress : largestOf g < rec .progress → isTooLarge rec xs g ≡ true
@@ -99,8 +92,9 @@ module _ (rec : Reception) (xs : List ℕ) (g : LargeFileFlag) where
   -- no number of a sound record's list is above progress
   none-larger : Passed xs rec → rec .progress ≤ largestOf g → anyAbove (largestOf g) (take (2 * rec .count) xs) ≡ false
   none-larger p h =
-      let e = p .above in
-      above-counted (largestOf g) xs (rec .count) (sound xs rec (p .bad) .store .room) (coalesced-of (counted xs (rec .count)) (p .whole)) ∙ le-ltb (largestOf g) (lastEnd (counted xs (rec .count))) (omega arith)
+      let s = sound xs rec p in
+      let e = s .above in
+      above-counted (largestOf g) xs (rec .count) (s .store .room) (s .whole) ∙ le-ltb (largestOf g) (lastEnd (counted xs (rec .count))) (omega arith)
 
   pub large-fine : Passed xs rec → rec .progress ≤ largestOf g → isTooLarge rec xs g ≡ false
   unfolding isTooLarge

@@ -1,6 +1,6 @@
 -- The entries of a sequence as they lie in a lent list: how many there are, where each ends, and the requests of one PDU.
 use mathlib.Core.Path.{_≡_, sym, ap, _∙_}
-use mathlib.Core.Bool.{Bool, true, false}
+use mathlib.Core.Bool.{Bool, true, false, cond}
 use mathlib.Core.List.{List, _∷_}
 use Prim.Native.Nat.{ℕ, suc, _+_, _*_, _-_, _≤_, _<_, min}
 use native.Mathlib.Omega.{arith}
@@ -10,16 +10,20 @@ use lib.Seq.{take-all}
 use Rattle.ranges.specs.Range.{Range, range}
 use Rattle.ranges.specs.Store.{counted}
 use Rattle.ranges.proofs.Flat.{at, getD-counted, length-counted, take-counted, drop-of-counted}
+use Rattle.reception.specs.declared.Reception.{Reception}
 use Rattle.octets.specs.declared.LargeFileFlag.{LargeFileFlag}
 use Rattle.nak.specs.declared.Identity.{Identity}
 use Rattle.nak.specs.Pdu.{Nak, saying}
 use Rattle.nak.specs.Inner as writer
-use Rattle.nak_sequence.specs.Entries.{asking, entriesOf, endOf, scopeStart, lastEndOf, nakAt}
+use Rattle.nak_sequence.specs.Entries.{askingFor, entriesOf, entriesIn, endOf, scopeStart, lastEndOf, nakAt}
 use Rattle.nak_sequence.specs.Inner.{entryCount}
 
-pub length-entries : (m : Bool) (xs : List ℕ) (n : ℕ) → 2 * n ≤ length xs → length (entriesOf m (counted xs n)) ≡ entryCount n m
-length-entries true xs n h = let c = length-counted xs n h in omega arith
-length-entries false xs n h = length-counted xs n h
+pub length-entries : (rec : Reception) (xs : List ℕ) → 2 * rec .count ≤ length xs → length (entriesIn rec xs) ≡ entryCount rec
+length-entries rec xs h = go (rec .missing)
+  where
+    go : (m : Bool) → length (entriesOf m (counted xs (rec .count))) ≡ cond m (rec .count + 1) (rec .count)
+    go true = let c = length-counted xs (rec .count) h in omega arith
+    go false = length-counted xs (rec .count) h
 
 pub end-known : (xs : List ℕ) (n i : ℕ) → i < n → 2 * n ≤ length xs → endOf (entriesOf false (counted xs n)) i ≡ getD xs (2 * i + 1) 0
 end-known xs n i k h = ap (λ (r : Range). r .end) (getD-counted xs n i k h)
@@ -60,48 +64,52 @@ first-requests xs n f k c m g q u e =
     let j : m - 1 ≡ min c (n - 0) = omega arith in
     rw (g, q, j) (ap (λ (l : List Range). range 0 0 ∷ l) (sym (some-pairs xs n 0 c (omega arith) u)))
 
-pub count-le : (n : ℕ) (m : Bool) → entryCount n m ≤ n + 1
-count-le n true = omega arith
-count-le n false = omega arith
+pub count-le : (rec : Reception) → entryCount rec ≤ rec .count + 1
+count-le rec = go (rec .missing)
+  where
+    go : (m : Bool) → cond m (rec .count + 1) (rec .count) ≤ rec .count + 1
+    go true = omega arith
+    go false = omega arith
 
 -- the PDU that `write_at` is asked for is the one from entry f on
-module _ (g : LargeFileFlag) (d : Identity) (p : ℕ) (xs : List ℕ) (n : ℕ) (m : Bool) (k f s e c : ℕ)
-    (h : 2 * n ≤ length xs) (u : s ≡ scopeStart (entriesOf m (counted xs n)) f) (v : e ≡ lastEndOf (entriesOf m (counted xs n)) p k f) (w : c ≡ min k (entryCount n m - f)) where
+module _ (g : LargeFileFlag) (d : Identity) (rec : Reception) (xs : List ℕ) (k f s e c : ℕ)
+    (h : 2 * rec .count ≤ length xs) (u : s ≡ scopeStart (entriesIn rec xs) f) (v : e ≡ lastEndOf (entriesIn rec xs) (rec .progress) k f)
+    (w : c ≡ min k (entryCount rec - f)) where
   abbrev there : Nak
-  there = nakAt (asking g d p (entriesOf m (counted xs n)) k) f
+  there = nakAt (askingFor rec xs g d k) f
 
-  pub first-nak : m ≡ true → f ≡ 0 → 1 ≤ k → saying g d s e (writer.entries true xs 0 (c - 1)) ≡ there
+  pub first-nak : rec .missing ≡ true → f ≡ 0 → 1 ≤ k → saying g d s e (writer.entries true xs 0 (c - 1)) ≡ there
   first-nak a b l =
-      let q : c ≡ min k (n + 1 - f) = w ∙ rw a in
-      let z : writer.entries true xs 0 (c - 1) ≡ take k (drop f (entriesOf m (counted xs n))) = first-requests xs n f k (k - 1) c b (omega arith) h q ∙ rw a in
+      let q : c ≡ min k (rec .count + 1 - f) = w ∙ rw a in
+      let z : writer.entries true xs 0 (c - 1) ≡ take k (drop f (entriesIn rec xs)) = first-requests xs (rec .count) f k (k - 1) c b (omega arith) h q ∙ rw a in
       rw (u, v, z)
 
-  pub later-nak : m ≡ true → (f ≡ 0 → ⊥) → f < entryCount n m → saying g d s e (writer.entries false xs (f - 1) c) ≡ there
+  pub later-nak : rec .missing ≡ true → (f ≡ 0 → ⊥) → f < entryCount rec → saying g d s e (writer.entries false xs (f - 1) c) ≡ there
   later-nak a b l =
       let o = rw a at l in
-      let q : c ≡ min k (n + 1 - f) = w ∙ rw a in
-      let z : writer.entries false xs (f - 1) c ≡ take k (drop f (entriesOf m (counted xs n))) = later-requests xs n f (f - 1) k c (omega arith) (omega arith) h q ∙ rw a in
+      let q : c ≡ min k (rec .count + 1 - f) = w ∙ rw a in
+      let z : writer.entries false xs (f - 1) c ≡ take k (drop f (entriesIn rec xs)) = later-requests xs (rec .count) f (f - 1) k c (omega arith) (omega arith) h q ∙ rw a in
       rw (u, v, z)
 
-  pub known-nak : m ≡ false → f < entryCount n m → saying g d s e (writer.entries false xs f c) ≡ there
+  pub known-nak : rec .missing ≡ false → f < entryCount rec → saying g d s e (writer.entries false xs f c) ≡ there
   known-nak a l =
       let o = rw a at l in
-      let q : c ≡ min k (n - f) = w ∙ rw a in
-      let z : writer.entries false xs f c ≡ take k (drop f (entriesOf m (counted xs n))) = known-requests xs n f k c (omega arith) h q ∙ rw a in
+      let q : c ≡ min k (rec .count - f) = w ∙ rw a in
+      let z : writer.entries false xs f c ≡ take k (drop f (entriesIn rec xs)) = known-requests xs (rec .count) f k c (omega arith) h q ∙ rw a in
       rw (u, v, z)
 
   -- how many pairs of the list the PDU holds
-  pub few-first : m ≡ true → f ≡ 0 → 1 ≤ k → 2 * 0 + 2 * (c - 1) ≤ length xs
-  few-first a b l = let q : c ≡ min k (n + 1 - f) = w ∙ rw a in omega arith
+  pub few-first : rec .missing ≡ true → f ≡ 0 → 1 ≤ k → 2 * 0 + 2 * (c - 1) ≤ length xs
+  few-first a b l = let q : c ≡ min k (rec .count + 1 - f) = w ∙ rw a in omega arith
 
-  pub few-later : m ≡ true → (f ≡ 0 → ⊥) → f < entryCount n m → 2 * (f - 1) + 2 * c ≤ length xs
+  pub few-later : rec .missing ≡ true → (f ≡ 0 → ⊥) → f < entryCount rec → 2 * (f - 1) + 2 * c ≤ length xs
   few-later a b l =
       let o = rw a at l in
-      let q : c ≡ min k (n + 1 - f) = w ∙ rw a in
+      let q : c ≡ min k (rec .count + 1 - f) = w ∙ rw a in
       omega arith
 
-  pub few-known : m ≡ false → f < entryCount n m → 2 * f + 2 * c ≤ length xs
+  pub few-known : rec .missing ≡ false → f < entryCount rec → 2 * f + 2 * c ≤ length xs
   few-known a l =
       let o = rw a at l in
-      let q : c ≡ min k (n - f) = w ∙ rw a in
+      let q : c ≡ min k (rec .count - f) = w ∙ rw a in
       omega arith

@@ -11,7 +11,7 @@ use borrow.Author.Tests.{le-ltb, ne-eqb, ltb-true, ltb-false}
 use Rattle.ranges.specs.Range.{Range, range, Above, Coalesced, lastEnd}
 use Rattle.ranges.specs.Store.{flat, counted, anyAbove}
 use Rattle.outcomes.specs.Outcome.{accepted}
-use Rattle.ranges.proofs.Test.{or-false, coalesced-of}
+use Rattle.ranges.proofs.Test.{or-false}
 use Rattle.octets.specs.declared.LargeFileFlag.{LargeFileFlag}
 use Rattle.nak.specs.declared.Identity.{Identity}
 use Rattle.octets.specs.Flag.{fieldLength, largestOf}
@@ -22,11 +22,12 @@ use Rattle.nak.proofs.Checks.{NakFine, fine-nak}
 use Rattle.nak_parser.specs.Parser.{Says, readOutcome}
 use Rattle.nak_parser.proofs.RoundTrip.{parsed-says, pdu-accepted, read-pdu}
 use Rattle.reception.specs.Record.{Passed}
+use Rattle.reception.proofs.Sound.{sound}
 use Rattle.reception.specs.declared.Reception.{Reception}
 use Rattle.ranges.proofs.Last.{ends-le, last-tail}
 use Rattle.nak_sequence.specs.Entries.{Asking, asking, entriesOf, endOf, scopeStart, scopeEnd, nakAt}
 use Rattle.nak_sequence.specs.Sequence.{Order, headerOf, isBadSize, isTooLarge, asked}
-use Rattle.nak_sequence.proofs.Sizes.{some-each, each-low, pdu-short}
+use Rattle.nak_sequence.proofs.Sizes.{some-each, each-low, pdu-short, small-size}
 
 -- ranges that are not empty and end at p or before
 abbrev Within : ℕ → List Range → Type 0
@@ -139,24 +140,20 @@ module _ (m : Bool) (p k : ℕ) (rs : List Range) (low : 1 ≤ k) (s : Coalesced
       let b = end-within f in
       rw (le-ltb (largestOf g) (scopeStart (entriesOf m rs) f) (omega arith), le-ltb (largestOf g) (scopeEnd shared f) (omega arith)) (entries-numbers m p (largestOf g) k f rs h w)
 
--- what check 7 and check 14 leave
+-- what check 7 leaves
 small-progress : (rec : Reception) (xs : List ℕ) (g : LargeFileFlag) → isTooLarge rec xs g ≡ false → rec .progress ≤ largestOf g
 unfolding isTooLarge
 small-progress rec xs g e = ltb-false (largestOf g) (rec .progress) (or-false _ _ e .0)
-
-small-size : (o : Order) → isBadSize o ≡ false → o .largest ≤ 4096
-unfolding isBadSize
-small-size o e = ltb-false 4096 (o .largest) (or-false _ _ e .0)
 
 module _ (rec : Reception) (xs : List ℕ) (o : Order) (ps : Passed xs rec) (id : isBadIdentity (o .identity) ≡ false) (sz : isBadSize o ≡ false) (lg : isTooLarge rec xs (o .flag) ≡ false) where
   abbrev a : Asking
   a = asked rec xs o
 
   whole : Coalesced (counted xs (rec .count))
-  whole = coalesced-of (counted xs (rec .count)) (ps .whole)
+  whole = sound xs rec ps .whole
 
   within : Within (rec .progress) (counted xs (rec .count))
-  within = above-within 0 (rec .progress) (counted xs (rec .count)) whole (ps .above)
+  within = above-within 0 (rec .progress) (counted xs (rec .count)) whole (sound xs rec ps .above)
 
   -- every PDU of the sequence is within the limits
   pub pdu-fine : (f : ℕ) → NakFine (nakAt a f)

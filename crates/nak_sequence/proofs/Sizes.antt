@@ -14,7 +14,7 @@ use Rattle.octets.specs.Flag.{fieldLength}
 use Rattle.nak.specs.Pdu.{pdu, headerLength}
 use Rattle.nak.proofs.Parts.{length-of-pdu}
 use Rattle.nak_sequence.specs.Entries.{Asking, perPdu, nakAt, naks, octetsOf}
-use Rattle.nak_sequence.specs.Sequence.{Order, headerOf, isBadSize}
+use Rattle.nak_sequence.specs.Sequence.{Order, headerOf, isBadSize, largestPdu}
 
 pub field-low : (g : LargeFileFlag) → 4 ≤ fieldLength g
 field-low Normal = omega arith
@@ -58,11 +58,15 @@ module _ (a : Asking) (p : ℕ) where
       let m = suc-mul n p in
       omega arith
 
--- an order that check 14 passes has room for a request in each PDU
+-- an order that check 14 passes has no larger PDU than may be, and room for a request in each PDU
+pub small-size : (o : Order) → isBadSize o ≡ false → o .largest ≤ largestPdu
+unfolding isBadSize
+small-size o e = ltb-false largestPdu (o .largest) (or-false _ _ e .0)
+
 pub some-each : (o : Order) → isBadSize o ≡ false → headerOf o + 1 + 4 * fieldLength (o .flag) ≤ o .largest
 unfolding isBadSize
 some-each o e =
-    let w = or-false (ltb 4096 (o .largest)) (ltb (o .largest) (headerOf o + 1 + 4 * fieldLength (o .flag))) e in
+    let w = or-false (ltb largestPdu (o .largest)) (ltb (o .largest) (headerOf o + 1 + 4 * fieldLength (o .flag))) e in
     ltb-false (o .largest) (headerOf o + 1 + 4 * fieldLength (o .flag)) (w .1)
 
 pub each-low : (o : Order) → isBadSize o ≡ false → 1 ≤ perPdu (o .largest) (headerOf o) (fieldLength (o .flag))

@@ -171,7 +171,9 @@ module _
 
     -- a call whose budget is at most 16 and whose buffer has room is accepted
     pub call-sent : (j : ℕ) (c : Call) → j ≤ length (a .entries) → Fits o c → answered rec xs o j c ≡ reports j c
-    call-sent j c l f = sym (seq-sent rec xs (calling o j c) (c .buffer) ps id (sizes j c) lg l (f .0) (f .1))
+    call-sent j c l f =
+        sym (seq-sent rec xs (calling o j c) (c .buffer)
+        (record { passed = ps; identity = id; size = sizes j c; large = lg; cursor = l; budget = f .0; room = f .1 }))
 
     call-octets : (j : ℕ) (c : Call) → j ≤ length (a .entries) → Fits o c
         → take (octetsIn (answered rec xs o j c)) (bufferAfter rec xs o j c) ≡ sent a (calling o j c)

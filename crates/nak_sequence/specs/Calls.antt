@@ -5,7 +5,7 @@ use mathlib.Core.List.{List, [], _∷_, _++_}
 use lib.ListN.{length, getD, take}
 use Rattle.outcomes.specs.Outcome.{Outcome, lent}
 use Rattle.reception.specs.declared.Reception.{Reception}
-use Rattle.nak_sequence.specs.Sequence.{Order, order, asked, sent, sequenceOutcome, sequenceBuffer}
+use Rattle.nak_sequence.specs.Sequence.{Order, order, largestBudget, asked, sent, sequenceOutcome, sequenceBuffer}
 
 -- What a call of the run has of its own: a PDU budget and a buffer.
 pub record Call : Type 0 where
@@ -14,7 +14,7 @@ pub record Call : Type 0 where
 
 -- The budget is at most 16, and the buffer has room for as many of the largest PDUs.
 abbrev pub Fits : Order → Call → Type 0
-Fits o c = (c .budget ≤ 16) × (c .budget * o .largest ≤ length (c .buffer))
+Fits o c = (c .budget ≤ largestBudget) × (c .budget * o .largest ≤ length (c .buffer))
 
 abbrev pub AllFit : Order → List Call → Type 0
 AllFit o [] = Unit

@@ -5,6 +5,8 @@ use mathlib.Core.List.{List, [], _∷_, _++_}
 use lib.ListN.{length, getD, take, drop}
 use lib.Dec.{ltb}
 use Rattle.ranges.specs.Range.{Range, range}
+use Rattle.ranges.specs.Store.{counted}
+use Rattle.reception.specs.declared.Reception.{Reception}
 use Rattle.octets.specs.declared.LargeFileFlag.{LargeFileFlag}
 use Rattle.nak.specs.declared.Identity.{Identity}
 use Rattle.nak.specs.Pdu.{Nak, saying, pdu}
@@ -31,6 +33,13 @@ pub record Asking : Type 0 where
 
 abbrev pub asking : LargeFileFlag → Identity → ℕ → List Range → ℕ → Asking
 asking g d p es k = record { flag = g; identity = d; progress = p; entries = es; each = k }
+
+-- The entries of a record and its list, and what the PDUs that ask for them share.
+abbrev pub entriesIn : Reception → List ℕ → List Range
+entriesIn rec xs = entriesOf (rec .missing) (counted xs (rec .count))
+
+abbrev pub askingFor : Reception → List ℕ → LargeFileFlag → Identity → ℕ → Asking
+askingFor rec xs g d k = asking g d (rec .progress) (entriesIn rec xs) k
 
 -- The end of entry i.
 abbrev pub endOf : List Range → ℕ → ℕ

@@ -1,35 +1,29 @@
 -- One call of the sequence (document 01, "The sequence").
 use Prim.Native.Nat.{ℕ, _+_, _*_, _-_, min}
-use mathlib.Core.Bool.{Bool, _||_, cond}
+use mathlib.Core.Bool.{Bool, _||_}
 use mathlib.Core.List.{List, [], _∷_, _++_}
 use lib.ListN.{length, take, drop}
 use lib.Dec.{ltb}
-use Rattle.ranges.specs.Store.{counted, anyAbove}
-use Rattle.outcomes.specs.Named as to
+use Rattle.ranges.specs.Store.{anyAbove}
 use Rattle.outcomes.specs.Outcome.{Outcome, accepted, lent}
+use Rattle.outcomes.specs.Refusal.{refusing}
+use Rattle.outcomes.specs.Checks.{Check, firstOf}
+use Rattle.outcomes.specs.declared.Refusal.the-variants as refusal
 use Rattle.octets.specs.declared.LargeFileFlag.{LargeFileFlag}
 use Rattle.octets.specs.Flag.{fieldLength, largestOf}
 use Rattle.nak.specs.declared.Identity.{Identity}
 use Rattle.nak.specs.Pdu.{headerLength}
 use Rattle.nak.specs.Writer.{isBadIdentity}
 use Rattle.reception.specs.declared.Reception.{Reception}
-use Rattle.reception.specs.Record.{checked}
+use Rattle.reception.specs.Record.{recordChecks}
 use Rattle.nak_sequence.specs.declared.SequenceAnswer.{SequenceAnswer}
 use Rattle.nak_sequence.specs.declared.SequenceAnswer.the-variants as answer
-use Rattle.nak_sequence.specs.Entries.{Asking, asking, entriesOf, perPdu, roundedUp, naks, octetsOf}
+use Rattle.nak_sequence.specs.Entries.{Asking, askingFor, perPdu, roundedUp, naks, octetsOf}
 
 -- The number and the values of each case of the answer; success answers the number of PDUs, the octets written and the new cursor.
 abbrev pub sequenceCase : SequenceAnswer → Outcome
 sequenceCase (answer.Sent pdus octets cursor) = accepted (pdus ∷ octets ∷ cursor ∷ [])
-sequenceCase answer.BadStore = to.badStore
-sequenceCase answer.NotCoalesced = to.notCoalesced
-sequenceCase answer.ScopeBelowList = to.scopeBelowList
-sequenceCase answer.BadIdentity = to.badIdentity
-sequenceCase answer.PduSize = to.pduSize
-sequenceCase answer.LargeSegmentForNormalFileSize = to.largeSegmentForNormalFileSize
-sequenceCase answer.BadCursor = to.badCursor
-sequenceCase answer.BudgetTooLarge = to.budgetTooLarge
-sequenceCase (answer.BufferSizeMissmatch needed given) = to.bufferSizeMissmatch needed given
+sequenceCase (answer.Refused r) = refusing r
 
 -- What a call is asked: identity, flag, the largest PDU P, a cursor j and a PDU budget g.
 pub record Order : Type 0 where
@@ -46,9 +40,16 @@ order d g p j b = record { identity = d; flag = g; largest = p; cursor = j; budg
 abbrev pub headerOf : Order → ℕ
 headerOf o = headerLength (o .identity .«entity_length») (o .identity .«number_length»)
 
+-- A PDU has at most 4,096 octets, and a call writes at most 16 PDUs.
+abbrev pub largestPdu : ℕ
+largestPdu = 4096
+
+abbrev pub largestBudget : ℕ
+largestBudget = 16
+
 -- 14: the largest PDU above 4,096, or below room for one request.
 unfoldable pub isBadSize : Order → Bool
-isBadSize o = ltb 4096 (o .largest) || ltb (o .largest) (headerOf o + 1 + 4 * fieldLength (o .flag))
+isBadSize o = ltb largestPdu (o .largest) || ltb (o .largest) (headerOf o + 1 + 4 * fieldLength (o .flag))
 
 -- 7: progress or a number of the list too large for the flag.
 unfoldable pub isTooLarge : Reception → List ℕ → LargeFileFlag → Bool
@@ -56,8 +57,7 @@ isTooLarge rec xs flag = ltb (largestOf flag) (rec .progress) || anyAbove (large
 
 -- What the PDUs of this record, list and order share.
 abbrev pub asked : Reception → List ℕ → Order → Asking
-asked rec xs o =
-    asking (o .flag) (o .identity) (rec .progress) (entriesOf (rec .missing) (counted xs (rec .count))) (perPdu (o .largest) (headerOf o) (fieldLength (o .flag)))
+asked rec xs o = askingFor rec xs (o .flag) (o .identity) (perPdu (o .largest) (headerOf o) (fieldLength (o .flag)))
 
 -- The number of PDUs: the smaller of g and (E − j)/k rounded up.
 abbrev pub pduCount : Asking → Order → ℕ
@@ -71,17 +71,25 @@ sent a o = octetsOf (naks a (o .cursor) (pduCount a o))
 abbrev pub newCursor : Asking → Order → ℕ
 newCursor a o = min (length (a .entries)) (o .cursor + o .budget * a .each)
 
--- Checks: 10, 8, 12, 13, 14, 7 (progress or list), 11, 20, 6 (buffer shorter than g × P, which is the number needed).
+-- Checks of the order itself: 13, 14, 7, 11, 20, 6 (buffer shorter than g × P, which is the number needed).
+abbrev pub orderChecks : Reception → List ℕ → Order → ℕ → List Check
+orderChecks rec xs o given =
+    (isBadIdentity (o .identity), refusal.BadIdentity)
+    ∷ (isBadSize o, refusal.PduSize)
+    ∷ (isTooLarge rec xs (o .flag), refusal.LargeSegmentForNormalFileSize)
+    ∷ (ltb (length (asked rec xs o .entries)) (o .cursor), refusal.BadCursor)
+    ∷ (ltb largestBudget (o .budget), refusal.BudgetTooLarge)
+    ∷ (ltb given (o .budget * o .largest), refusal.BufferSizeMissmatch (o .budget * o .largest) given)
+    ∷ []
+
+-- Checks: 10, 8, 12, 13, 14, 7, 11, 20, 6.
+abbrev pub sequenceChecks : Reception → List ℕ → Order → ℕ → List Check
+sequenceChecks rec xs o given = recordChecks rec xs ++ orderChecks rec xs o given
+
 abbrev pub sequenceOutcome : Reception → List ℕ → Order → ℕ → Outcome
 sequenceOutcome rec xs o given =
-    checked xs rec
-    (cond (isBadIdentity (o .identity)) to.badIdentity
-    (cond (isBadSize o) to.pduSize
-    (cond (isTooLarge rec xs (o .flag)) to.largeSegmentForNormalFileSize
-    (cond (ltb (length (asked rec xs o .entries)) (o .cursor)) to.badCursor
-    (cond (ltb 16 (o .budget)) to.budgetTooLarge
-    (cond (ltb given (o .budget * o .largest)) (to.bufferSizeMissmatch (o .budget * o .largest) given)
-    (accepted (pduCount (asked rec xs o) o ∷ length (sent (asked rec xs o) o) ∷ newCursor (asked rec xs o) o ∷ []))))))))
+    firstOf (sequenceChecks rec xs o given)
+    (accepted (pduCount (asked rec xs o) o ∷ length (sent (asked rec xs o) o) ∷ newCursor (asked rec xs o) o ∷ []))
 
 -- The buffer afterwards: the PDUs, and behind them what was there.
 abbrev pub sequenceBuffer : Reception → List ℕ → Order → List ℕ → List ℕ

@@ -1,16 +1,23 @@
 // Inner: the PDUs of a sequence, written one after the other. Each function asks for what the call has checked.
 ghost use mathlib.Core.Path.{_≡_};
+ghost use mathlib.Core.Bool.{_||_};
 ghost use Prim.Native.Nat.{_+_, _*_, _-_, _<_, _≤_, min};
+ghost use lib.Dec.{ltb};
 ghost use lib.ListN.{length};
-ghost use Rattle.ranges.specs.Store.{counted};
 ghost use Rattle.octets.specs.Octets.{withOctets};
 ghost use Rattle.nak.specs.Inner.{GoodLengths};
-ghost use Rattle.nak.specs.Pdu.{pdu};
-ghost use Rattle.nak_sequence.specs.Entries.{asking, entriesOf, endOf, scopeStart, scopeEnd, roundedUp, nakAt, naks, octetsOf, lastEndOf};
-ghost use Rattle.nak_sequence.specs.Inner.{entryCount};
+ghost use Rattle.nak.specs.Pdu.{pdu, headerLength};
+ghost use Rattle.reception.specs.Record.{mostRanges};
+ghost use Rattle.nak_sequence.specs.Entries.{askingFor, entriesIn, perPdu, endOf, scopeStart, roundedUp, nakAt, naks, octetsOf, lastEndOf};
+ghost use Rattle.nak_sequence.specs.Sequence.{largestPdu};
+ghost use Rattle.nak_sequence.specs.Inner.{entryCount, Listed};
 use nak::Identity;
 use nak::inner::write_at;
 use octets::LargeFileFlag;
+use reception::Reception;
+
+// The most octets of a PDU.
+const LARGEST_PDU: usize = 4096;
 
 // The smaller of two numbers.
 pub fn smaller(a: usize, b: usize) -> usize
@@ -19,20 +26,51 @@ pub fn smaller(a: usize, b: usize) -> usize
     if a < b { a } else { b }
 }
 
-// E: how many entries there are.
-pub fn entry_count(count: usize, missing: bool) -> usize
-    requires { ⌜ count ≤ 4096 ⌝ }
-    ensures { λ r. ⌜ r ≡ entryCount count missing ⌝ }
+// H: the length of the fixed header, with identifiers.
+pub fn header_length(identity: Identity) -> usize
+    requires { ⌜ GoodLengths identity ⌝ }
+    ensures { λ r. ⌜ r ≡ headerLength (identity .«entity_length») (identity .«number_length») ⌝ }
 {
-    if missing { count + 1 } else { count }
+    4 + 2 * identity.entity_length + identity.number_length
+}
+
+// Whether the largest PDU is too large, or has no room for one request.
+pub fn bad_size(largest: usize, h: usize, f: usize) -> bool
+    requires { ⌜ (h ≤ 28) × (f ≤ 8) ⌝ }
+    ensures { λ r. ⌜ r ≡ (ltb largestPdu largest || ltb largest (h + 1 + 4 * f)) ⌝ }
+{
+    if LARGEST_PDU < largest {
+        return true;
+    }
+    largest < h + 1 + 4 * f
+}
+
+// k: how many requests a PDU holds.
+pub fn per_pdu(largest: usize, h: usize, f: usize) -> usize
+    requires { ⌜ (h + 1 + 4 * f ≤ largest) × ((4 ≤ f) × (f ≤ 8)) ⌝ }
+    ensures { λ r. ⌜ r ≡ perPdu largest h f ⌝ }
+{
+    (largest - h - 1 - 2 * f) / (2 * f)
+}
+
+// E: how many entries there are.
+pub fn entry_count(rec: Reception) -> usize
+    requires { ⌜ rec .count ≤ mostRanges ⌝ }
+    ensures { λ r. ⌜ r ≡ entryCount rec ⌝ }
+{
+    if rec.missing {
+        rec.count + 1
+    } else {
+        rec.count
+    }
 }
 
 // The end of entry i.
-fn entry_end(list: &[u64], count: usize, missing: bool, i: usize) -> u64
-    requires { ⌜ (2 * count ≤ length (now list)) × (i < entryCount count missing) ⌝ }
-    ensures { λ r. ⌜ r ≡ endOf (entriesOf missing (counted (now (list .entry)) count)) i ⌝ }
+fn entry_end(rec: Reception, list: &[u64], i: usize) -> u64
+    requires { ⌜ Listed rec (now list) × (i < entryCount rec) ⌝ }
+    ensures { λ r. ⌜ r ≡ endOf (entriesIn rec (now (list .entry))) i ⌝ }
 {
-    if missing {
+    if rec.missing {
         if i == 0 {
             return 0;
         }
@@ -43,49 +81,47 @@ fn entry_end(list: &[u64], count: usize, missing: bool, i: usize) -> u64
 }
 
 // The scope start of the PDU from entry f on.
-fn scope_start(list: &[u64], count: usize, missing: bool, f: usize) -> u64
-    requires { ⌜ (2 * count ≤ length (now list)) × (f < entryCount count missing) ⌝ }
-    ensures { λ r. ⌜ r ≡ scopeStart (entriesOf missing (counted (now (list .entry)) count)) f ⌝ }
+fn scope_start(rec: Reception, list: &[u64], f: usize) -> u64
+    requires { ⌜ Listed rec (now list) × (f < entryCount rec) ⌝ }
+    ensures { λ r. ⌜ r ≡ scopeStart (entriesIn rec (now (list .entry))) f ⌝ }
 {
     if f == 0 {
         return 0;
     }
-    entry_end(list, count, missing, f - 1)
+    entry_end(rec, list, f - 1)
 }
 
 // The scope end of the PDU from entry f on: the end of its last entry, or progress where that is the last of all.
-fn scope_end(list: &[u64], count: usize, progress: u64, missing: bool, k: usize, f: usize) -> u64
-    requires { ⌜ (2 * count ≤ length (now list)) × ((count ≤ 4096) × ((1 ≤ k) × ((k ≤ 4096) × (f < entryCount count missing)))) ⌝ }
-    ensures { λ r. ⌜ r ≡ lastEndOf (entriesOf missing (counted (now (list .entry)) count)) progress k f ⌝ }
+fn scope_end(rec: Reception, list: &[u64], k: usize, f: usize) -> u64
+    requires { ⌜ Listed rec (now list) × ((1 ≤ k) × ((k ≤ largestPdu) × (f < entryCount rec))) ⌝ }
+    ensures { λ r. ⌜ r ≡ lastEndOf (entriesIn rec (now (list .entry))) (rec .progress) k f ⌝ }
 {
-    if f + k < entry_count(count, missing) {
-        return entry_end(list, count, missing, f + k - 1);
+    if f + k < entry_count(rec) {
+        return entry_end(rec, list, f + k - 1);
     }
-    progress
+    rec.progress
 }
 
 // The PDU from entry f on, written from place `at` on; hands back the place behind it.
 fn write_pdu(
     buf: &mut [u8],
     at: usize,
+    rec: Reception,
     list: &[u64],
-    count: usize,
-    progress: u64,
-    missing: bool,
     identity: Identity,
     flag: LargeFileFlag,
     k: usize,
     f: usize,
 ) -> usize
-    requires { ⌜ GoodLengths identity × ((2 * count ≤ length (now list)) × ((count ≤ 4096) × ((1 ≤ k) × ((k ≤ 4096) × (f < entryCount count missing))))) ⌝ }
-    requires { ⌜ at + length (pdu (nakAt (asking flag identity progress (entriesOf missing (counted (now list) count)) k) f)) ≤ length (now buf) ⌝ }
-    ensures { λ r. ⌜ r ≡ at + length (pdu (nakAt (asking flag identity progress (entriesOf missing (counted (now (list .entry)) count)) k) f)) ⌝ }
-    ensures { λ _. ⌜ now (buf .exit) ≡ withOctets (now (buf .entry)) at (pdu (nakAt (asking flag identity progress (entriesOf missing (counted (now (list .entry)) count)) k) f)) ⌝ }
+    requires { ⌜ GoodLengths identity × (Listed rec (now list) × ((1 ≤ k) × ((k ≤ largestPdu) × (f < entryCount rec)))) ⌝ }
+    requires { ⌜ at + length (pdu (nakAt (askingFor rec (now list) flag identity k) f)) ≤ length (now buf) ⌝ }
+    ensures { λ r. ⌜ r ≡ at + length (pdu (nakAt (askingFor rec (now (list .entry)) flag identity k) f)) ⌝ }
+    ensures { λ _. ⌜ now (buf .exit) ≡ withOctets (now (buf .entry)) at (pdu (nakAt (askingFor rec (now (list .entry)) flag identity k) f)) ⌝ }
 {
-    let start = scope_start(list, count, missing, f);
-    let end = scope_end(list, count, progress, missing, k, f);
-    let m = smaller(k, entry_count(count, missing) - f);
-    if missing {
+    let start = scope_start(rec, list, f);
+    let end = scope_end(rec, list, k, f);
+    let m = smaller(k, entry_count(rec) - f);
+    if rec.missing {
         if f == 0 {
             return write_at(buf, at, identity, flag, start, end, true, list, 0, m - 1);
         }
@@ -97,37 +133,24 @@ fn write_pdu(
 // The PDUs from entry `from` on, `pdus` of them, written from the buffer's front; hands back the octets written.
 pub fn write_pdus(
     buf: &mut [u8],
+    rec: Reception,
     list: &[u64],
-    count: usize,
-    progress: u64,
-    missing: bool,
     identity: Identity,
     flag: LargeFileFlag,
     k: usize,
     from: usize,
     pdus: usize,
 ) -> usize
-    requires { ⌜ GoodLengths identity × ((2 * count ≤ length (now list)) × ((count ≤ 4096) × ((1 ≤ k) × ((k ≤ 4096) × (pdus ≤ roundedUp (entryCount count missing - from) k))))) ⌝ }
-    requires { ⌜ length (octetsOf (naks (asking flag identity progress (entriesOf missing (counted (now list) count)) k) from pdus)) ≤ length (now buf) ⌝ }
-    ensures { λ r. ⌜ r ≡ length (octetsOf (naks (asking flag identity progress (entriesOf missing (counted (now (list .entry)) count)) k) from pdus)) ⌝ }
-    ensures { λ _. ⌜ now (buf .exit) ≡ withOctets (now (buf .entry)) 0 (octetsOf (naks (asking flag identity progress (entriesOf missing (counted (now (list .entry)) count)) k) from pdus)) ⌝ }
+    requires { ⌜ GoodLengths identity × (Listed rec (now list) × ((1 ≤ k) × ((k ≤ largestPdu) × (pdus ≤ roundedUp (entryCount rec - from) k)))) ⌝ }
+    requires { ⌜ length (octetsOf (naks (askingFor rec (now list) flag identity k) from pdus)) ≤ length (now buf) ⌝ }
+    ensures { λ r. ⌜ r ≡ length (octetsOf (naks (askingFor rec (now (list .entry)) flag identity k) from pdus)) ⌝ }
+    ensures { λ _. ⌜ now (buf .exit) ≡ withOctets (now (buf .entry)) 0 (octetsOf (naks (askingFor rec (now (list .entry)) flag identity k) from pdus)) ⌝ }
 {
     let mut at = 0;
     let mut f = from;
     let mut n = 0;
     while n < pdus {
-        at = write_pdu(
-            buf,
-            at,
-            list,
-            count,
-            progress,
-            missing,
-            identity,
-            flag,
-            k,
-            f,
-        );
+        at = write_pdu(buf, at, rec, list, identity, flag, k, f);
         f += k;
         n += 1;
     }

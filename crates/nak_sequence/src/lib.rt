@@ -1,28 +1,70 @@
 // The NAK sequence: PDUs that ask for everything that is missing, a few at a time from a cursor on.
 ghost use mathlib.Core.Path.{_≡_};
+ghost use mathlib.Core.List.{[]};
 ghost use lib.ListN.{length};
-ghost use Rattle.nak_sequence.specs.Sequence.{sequenceCase, sequenceOutcome, sequenceBuffer, order};
+ghost use Rattle.outcomes.specs.Outcome.{accepted};
+ghost use Rattle.outcomes.specs.Checks.{verdictCase, firstOf};
+ghost use Rattle.nak_sequence.specs.Sequence.{sequenceChecks, sequenceCase, sequenceOutcome, sequenceBuffer, order};
+use events::inner::record_checks;
 use nak::Identity;
 use nak::inner::bad_identity;
 use octets::LargeFileFlag;
+use outcomes::Refusal;
+use outcomes::Verdict;
 use reception::Reception;
-use reception::inner::first_fault;
 
 pub mod inner;
+
+// The most PDUs that a call writes.
+const LARGEST_BUDGET: usize = 16;
 
 pub enum SequenceAnswer {
     // PDUs, octets written, new cursor.
     Sent(usize, usize, usize),
-    BadStore,
-    NotCoalesced,
-    ScopeBelowList,
-    BadIdentity,
-    PduSize,
-    LargeSegmentForNormalFileSize,
-    BadCursor,
-    BudgetTooLarge,
-    // Needed, given.
-    BufferSizeMissmatch(usize, usize),
+    Refused(Refusal),
+}
+
+// The checks of a call, `given` the length of its buffer.
+pub fn sequence_checks(
+    rec: Reception,
+    list: &[u64],
+    identity: Identity,
+    flag: LargeFileFlag,
+    largest: usize,
+    cursor: usize,
+    budget: usize,
+    given: usize,
+) -> Verdict
+    ensures { λ r. ⌜ verdictCase r ≡ firstOf (sequenceChecks rec (now (list .entry)) (order identity flag largest cursor budget) given) (accepted []) ⌝ }
+{
+    let found = record_checks(rec, list);
+    if let Verdict::Refused(r) = found {
+        return Verdict::Refused(r);
+    }
+    if bad_identity(identity) {
+        return Verdict::Refused(Refusal::BadIdentity);
+    }
+    let h = inner::header_length(identity);
+    let f = flag.field_length();
+    if inner::bad_size(largest, h, f) {
+        return Verdict::Refused(Refusal::PduSize);
+    }
+    // No number of a sound record's list is above progress.
+    if flag.largest() < rec.progress {
+        return Verdict::Refused(Refusal::LargeSegmentForNormalFileSize);
+    }
+    let e = inner::entry_count(rec);
+    if e < cursor {
+        return Verdict::Refused(Refusal::BadCursor);
+    }
+    if LARGEST_BUDGET < budget {
+        return Verdict::Refused(Refusal::BudgetTooLarge);
+    }
+    let needed = budget * largest;
+    if given < needed {
+        return Verdict::Refused(Refusal::BufferSizeMissmatch(needed, given));
+    }
+    Verdict::Passed
 }
 
 // Writes at most `budget` PDUs of at most `largest` octets back to back, from entry `cursor` on.
@@ -39,61 +81,24 @@ pub fn write_nak_sequence(
     ensures { λ r. ⌜ sequenceCase r ≡ sequenceOutcome rec (now (list .entry)) (order identity flag largest cursor budget) (length (now (buf .entry))) ⌝ }
     ensures { λ _. ⌜ now (buf .exit) ≡ sequenceBuffer rec (now (list .entry)) (order identity flag largest cursor budget) (now (buf .entry)) ⌝ }
 {
-    let count = rec.count;
-    let progress = rec.progress;
-    let width = rec.width;
-    let missing = rec.missing;
-    let fault = first_fault(list, count, progress, width, missing);
-    if fault == 10 {
-        return SequenceAnswer::BadStore;
-    }
-    if fault == 8 {
-        return SequenceAnswer::NotCoalesced;
-    }
-    if fault == 12 {
-        return SequenceAnswer::ScopeBelowList;
-    }
-    if bad_identity(identity) {
-        return SequenceAnswer::BadIdentity;
-    }
-    let i = identity.entity_length;
-    let q = identity.number_length;
-    let h = 4 + 2 * i + q;
-    let f = flag.field_length();
-    if 4096 < largest {
-        return SequenceAnswer::PduSize;
-    }
-    if largest < h + 1 + 4 * f {
-        return SequenceAnswer::PduSize;
-    }
-    // No number of a sound record's list is above progress.
-    if flag.largest() < progress {
-        return SequenceAnswer::LargeSegmentForNormalFileSize;
-    }
-    let e = inner::entry_count(count, missing);
-    if e < cursor {
-        return SequenceAnswer::BadCursor;
-    }
-    if 16 < budget {
-        return SequenceAnswer::BudgetTooLarge;
-    }
-    let needed = budget * largest;
-    if buf.len() < needed {
-        return SequenceAnswer::BufferSizeMissmatch(needed, buf.len());
-    }
-    let k = (largest - h - 1 - 2 * f) / (2 * f);
-    let pdus = inner::smaller(budget, (e - cursor + (k - 1)) / k);
-    let octets = inner::write_pdus(
-        buf,
+    let found = sequence_checks(
+        rec,
         list,
-        count,
-        progress,
-        missing,
         identity,
         flag,
-        k,
+        largest,
         cursor,
-        pdus,
+        budget,
+        buf.len(),
     );
+    if let Verdict::Refused(r) = found {
+        return SequenceAnswer::Refused(r);
+    }
+    let h = inner::header_length(identity);
+    let f = flag.field_length();
+    let k = inner::per_pdu(largest, h, f);
+    let e = inner::entry_count(rec);
+    let pdus = inner::smaller(budget, (e - cursor + (k - 1)) / k);
+    let octets = inner::write_pdus(buf, rec, list, identity, flag, k, cursor, pdus);
     SequenceAnswer::Sent(pdus, octets, inner::smaller(e, cursor + budget * k))
 }

@@ -1,7 +1,7 @@
 // A line of commands: its name, its words, what it does.
 ghost use Prim.Native.Nat.{_≤_};
 ghost use lib.ListN.{length};
-use console_calls::inner::events;
+use console_calls::inner::receiving;
 use console_calls::inner::pdus;
 use console_calls::inner::state;
 use console_calls::inner::state::State;
@@ -141,8 +141,8 @@ fn answer(
         Command::Coalesce => store::coalesce(s, memory, out),
         Command::Within => store::within(s, memory, values[0], values[1], out),
         Command::Octets => store::octets(s, memory, values[0], values[1], buf, out),
-        Command::Data => events::data(s, memory, values[0], values[1], out),
-        Command::Metadata => events::metadata(s, memory, out),
+        Command::Data => receiving::data(s, memory, values[0], values[1], out),
+        Command::Metadata => receiving::metadata(s, memory, out),
         Command::Write => pdus::write(s, values, values, n, buf, out),
         Command::Read => pdus::read(s, buf, n, out),
         Command::Nak => pdus::sequence(s, memory, values, buf, out),

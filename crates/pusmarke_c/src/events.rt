@@ -8,10 +8,10 @@ ghost use Rattle.c_values.specs.Input.{widthIn, recordIn};
 ghost use Rattle.c_values.specs.Output.{recordOut, advancedTo, markedBy};
 use c_answers::PusmarkeAnswer;
 use c_values::PusmarkeReception;
-use c_values::events::data_numbers;
-use c_values::events::metadata_mark;
 use c_values::inner::mark_of;
 use c_values::inner::width_in;
+use c_values::record_events::data_whole;
+use c_values::record_events::metadata_whole;
 use reception::Reception;
 
 #[no_mangle]
@@ -39,14 +39,10 @@ pub extern "C" fn pusmarke_data(
         × ((now (rec .exit) ≡ advancedTo (dataRecord (recordIn (now (rec .entry))) (now (list .entry)) offset length) (now (rec .entry)))
         × (now (list .exit) ≡ dataList (recordIn (now (rec .entry))) (now (list .entry)) offset length)) ⌝ }
 {
-    let count = rec.count;
-    let progress = rec.progress;
-    let narrow = rec.narrow;
-    let missing = rec.missing;
-    let s = data_numbers(list, count, progress, narrow, missing, offset, length);
-    rec.count = s.count;
-    rec.progress = s.progress;
-    s.answer
+    let own = *rec;
+    let done = data_whole(own, list, offset, length);
+    *rec = done.rec;
+    done.answer
 }
 
 // The metadata event: the mark is cleared where it lies; the list is only read.
@@ -55,11 +51,8 @@ pub extern "C" fn pusmarke_metadata(rec: &mut PusmarkeReception, list: &[u64]) -
     ensures { λ r. ⌜ (r ≡ answerOf (metadataOutcome (recordIn (now (rec .entry))) (now (list .entry))))
         × (now (rec .exit) ≡ markedBy (metadataRecord (recordIn (now (rec .entry))) (now (list .entry))) (now (rec .entry))) ⌝ }
 {
-    let count = rec.count;
-    let progress = rec.progress;
-    let narrow = rec.narrow;
-    let missing = rec.missing;
-    let s = metadata_mark(list, count, progress, narrow, missing);
-    rec.missing = s.missing;
-    s.answer
+    let own = *rec;
+    let done = metadata_whole(own, list);
+    *rec = done.rec;
+    done.answer
 }

@@ -14,18 +14,24 @@ use Rattle.ranges.specs.Run.{RunsOf}
 use Rattle.ranges.specs.Store.{capacity, limitOf}
 use Rattle.outcomes.specs.Outcome.{Outcome, accepted}
 use Rattle.outcomes.specs.Named.{storeFull, emptySegment, largeFileSegmentNotSupported, rangeTooLong, alreadyKnown}
+use Rattle.outcomes.specs.Refusal.{refusing}
+use Rattle.outcomes.specs.Checks.{firstOf}
+use Rattle.outcomes.specs.declared.Refusal.{Refusal}
 use Rattle.ranges.specs.declared.Width.{Width}
 use Rattle.ranges.proofs.Runs.{runs-of, one-runs}
 use Rattle.ranges.proofs.Without.{part-covers}
-use Rattle.reception.specs.Record.{Passed}
-use Rattle.reception.specs.Data.{isTooLong}
+use Rattle.reception.specs.Record.{mostRanges, recordChecks, Passed}
+use Rattle.reception.specs.declared.Reception.{Reception}
+use Rattle.reception.specs.Data.{dataLeaves, largestNumber, isTooLong, segmentChecks, dataOutcome}
+use Rattle.reception.specs.Metadata.{markChecks, metadataOutcome}
+use Rattle.reception.proofs.data.Answers.{rest}
 use Rattle.reception.specs.History.{Event, Data, Metadata, State, fresh, outcome, isAccepted, step, run, metadataCame, largestEnd, WouldMiss, keptOrNoticed, rangesOf}
 use Rattle.reception.proofs.Keeping.{kept-covers}
 use Rattle.reception.proofs.Standing.{after-whole}
-use Rattle.reception.proofs.Sound.{checked-passed}
+use Rattle.reception.proofs.Sound.{behind-record, refused-record}
 use Rattle.reception.proofs.Records.{progress-largest, mark-metadata, width-same}
 use Rattle.reception.proofs.Histories.{holds, missing-exact, always-sound, left-by}
-use Rattle.reception.proofs.data.Answers.{after, data-empty, data-long, data-large, data-full, data-taken}
+use Rattle.reception.proofs.data.Answers.{data-empty, data-long, data-large, data-full, data-taken}
 use Rattle.reception.proofs.data.Accepted.{taken}
 
 -- what the mark answers, said of the metadata
@@ -50,8 +56,16 @@ kept-if : (c : Bool) → (cond c (accepted (1 ∷ [])) (accepted (0 ∷ [])) ≡
 kept-if true = (λ e. refl, λ e. refl)
 kept-if false = (λ e. absurd (none-noticed (sym e)), λ e. absurd (true≢false (sym e)))
 
+-- a record that is not sound is answered by the first of 10, 8 and 12 that it fails, whatever the event
+module _ (xs : List ℕ) (rec : Reception) (r : Refusal) (f : refusing r ≡ firstOf (recordChecks rec xs) (accepted [])) where
+  pub unsound-data : (o z : ℕ) → dataOutcome rec xs o z ≡ refusing r
+  unsound-data o z = sym (refused-record xs rec r (segmentChecks rec o z) (rest rec xs o z) f)
+
+  pub unsound-metadata : metadataOutcome rec xs ≡ refusing r
+  unsound-metadata = sym (refused-record xs rec r (markChecks rec) (accepted []) f)
+
 -- after any events of a fresh reception with room for N, whatever the lent list holds
-module _ (w : Width) (xs : List ℕ) (N : ℕ) (size : length xs ≡ 2 * N) (few : N ≤ 4096) (es : List Event) where
+module _ (w : Width) (xs : List ℕ) (N : ℕ) (size : length xs ≡ 2 * N) (few : N ≤ mostRanges) (es : List Event) where
   abbrev start : State
   start = fresh w xs
 
@@ -67,10 +81,10 @@ module _ (w : Width) (xs : List ℕ) (N : ℕ) (size : length xs ≡ 2 * N) (few
   -- the metadata event is accepted if none was accepted before, and else it is already known
   pub metadata-answered : outcome before Metadata ≡ cond (metadataCame start es) alreadyKnown (accepted [])
   metadata-answered =
-      sym (checked-passed (before .list) (before .rec) (cond (before .rec .missing) (accepted []) alreadyKnown) passed)
+      sym (behind-record (before .list) (before .rec) passed (markChecks (before .rec)) (accepted []))
       ∙ go (metadataCame start es) (before .rec .missing) (mark-metadata w xs es)
     where
-      go : (c m : Bool) → m ≡ not c → cond m (accepted []) alreadyKnown ≡ cond c alreadyKnown (accepted [])
+      go : (c m : Bool) → m ≡ not c → cond (not m) alreadyKnown (accepted []) ≡ cond c alreadyKnown (accepted [])
       go true m e = rw e
       go false m e = rw e
 
@@ -81,16 +95,16 @@ module _ (w : Width) (xs : List ℕ) (N : ℕ) (size : length xs ≡ 2 * N) (few
 
     module _ (some : z ≡ 0 → ⊥) where
       -- one whose end is above 2^64 - 1
-      pub long-refused : 18446744073709551615 < o + z → outcome before (Data o z) ≡ rangeTooLong
-      long-refused h = sym (data-long (before .rec) (before .list) o z passed some (rw (lt-ltb 18446744073709551615 (o + z) h)))
+      pub long-refused : largestNumber < o + z → outcome before (Data o z) ≡ rangeTooLong
+      long-refused h = sym (data-long (before .rec) (before .list) o z passed some (rw (lt-ltb largestNumber (o + z) h)))
 
       -- one whose end is above the width's limit
-      pub large-refused : o + z ≤ 18446744073709551615 → limitOf w < o + z → outcome before (Data o z) ≡ largeFileSegmentNotSupported
-      large-refused s h = sym (data-large (before .rec) (before .list) o z passed some (rw (le-ltb 18446744073709551615 (o + z) s)) (rw (width-same w xs es) h))
+      pub large-refused : o + z ≤ largestNumber → limitOf w < o + z → outcome before (Data o z) ≡ largeFileSegmentNotSupported
+      large-refused s h = sym (data-large (before .rec) (before .list) o z passed some (rw (le-ltb largestNumber (o + z) s)) (rw (width-same w xs es) h))
 
       -- the list that the event would leave
       abbrev would : List Range
-      would = after (before .rec) (before .list) o z
+      would = dataLeaves (before .rec) (before .list) o z
 
       ordered : o < o + z
       ordered = omega (arith, some)
@@ -125,7 +139,7 @@ module _ (w : Width) (xs : List ℕ) (N : ℕ) (size : length xs ≡ 2 * N) (few
       some-runs = (would, would-runs)
 
       -- the room rule, for an otherwise valid event and the runs of the offsets that would be missing
-      module _ (short : o + z ≤ 18446744073709551615) (small : o + z ≤ limitOf w) (rs : List Range) (runs : RunsOf (WouldMiss start es o z) rs) where
+      module _ (short : o + z ≤ largestNumber) (small : o + z ≤ limitOf w) (rs : List Range) (runs : RunsOf (WouldMiss start es o z) rs) where
         as-long : length rs ≡ length would
         as-long = ap length (one-runs (WouldMiss start es o z) rs would runs would-runs)
 
@@ -137,7 +151,7 @@ module _ (w : Width) (xs : List ℕ) (N : ℕ) (size : length xs ≡ 2 * N) (few
 
         -- check 9 passes
         fits : isTooLong o z ≡ false
-        fits = rw (le-ltb 18446744073709551615 (o + z) short)
+        fits = rw (le-ltb largestNumber (o + z) short)
 
         full : N < length rs → outcome before (Data o z) ≡ storeFull
         full h = sym (data-full (before .rec) (before .list) o z passed some fits below (rw (lt-ltb (capacity (before .list)) (length would) (omega (arith, room, as-long)))))
@@ -166,8 +180,8 @@ module _ (w : Width) (xs : List ℕ) (N : ℕ) (size : length xs ≡ 2 * N) (few
     -- an accepted data event is told to be kept if a metadata event was accepted before it, else to be noticed
     pub accepted-answered : isAccepted before (Data o z) ≡ true → outcome before (Data o z) ≡ keptOrNoticed start es
     accepted-answered f =
-        let t = taken (before .rec) (before .list) o z passed f in
-        sym (data-taken (before .rec) (before .list) o z passed (t .some) (t .short) (t .small) (t .free))
+        let t = taken (before .rec) (before .list) o z f in
+        sym (data-taken (before .rec) (before .list) o z passed (t .checks .some) (t .checks .short) (t .checks .small) (t .free))
         ∙ told-by-mark (before .rec .missing) (metadataCame start es) (mark-metadata w xs es)
 
     -- so each of the two is told exactly then
@@ -179,4 +193,4 @@ module _ (w : Width) (xs : List ℕ) (N : ℕ) (size : length xs ≡ 2 * N) (few
 
     -- and it leaves the runs of the offsets that were said to be missing then
     pub accepted-leaves : isAccepted before (Data o z) ≡ true → RunsOf (WouldMiss start es o z) (rangesOf (step before (Data o z)))
-    accepted-leaves f = rw (left-by w xs N size few es o z f) (would-runs (taken (before .rec) (before .list) o z passed f .some))
+    accepted-leaves f = rw (left-by w xs N size few es o z f) (would-runs (taken (before .rec) (before .list) o z f .checks .some))

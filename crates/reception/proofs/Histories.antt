@@ -17,13 +17,12 @@ use Rattle.ranges.specs.declared.Width.{Width}
 use Rattle.ranges.proofs.Runs.{runs-of}
 use Rattle.ranges.proofs.Stored.{counted-stored}
 use Rattle.ranges.proofs.Without.{part-covers, length-part}
-use Rattle.reception.specs.Record.{recordOf, waitingRanges, Passed}
-use Rattle.reception.specs.Data.{keptRanges, advanced}
+use Rattle.reception.specs.Record.{mostRanges, waitingRanges, known as cleared, Passed}
+use Rattle.reception.specs.Data.{keptRanges, dataLeaves, advanced}
 use Rattle.reception.specs.History.{Event, Data, Metadata, State, fresh, isAccepted, step, run, isMetadataCome, keptBy, keptFrom, kept, acceptedOf, Missing, rangesOf}
 use Rattle.reception.proofs.Keeping.{kept-covers, length-kept}
 use Rattle.reception.proofs.Records.{refused-same, step-mark, progress-largest}
 use Rattle.reception.proofs.Standing.{Standing, standing-passed, standing-stored, standing-fresh, after-whole, after-last}
-use Rattle.reception.proofs.data.Answers.{after}
 use Rattle.reception.proofs.data.Accepted.{Taken, taken}
 
 -- what holds on the way: P are the offsets kept so far, n the events accepted
@@ -51,14 +50,14 @@ holds-same s N P Q n m k f h =
 -- an accepted data event
 module _ (s : State) (N : ℕ) (P : ℕ → Type 0) (n : ℕ) (h : Holds s N P n) (o z : ℕ) (t : Taken (s .rec) (s .list) o z) where
   next : State
-  next = record { rec = advanced (s .rec) (s .list) o z; list = stored (after (s .rec) (s .list) o z) (s .rec .count) (s .list) }
+  next = record { rec = advanced (s .rec) (s .list) o z; list = stored (dataLeaves (s .rec) (s .list) o z) (s .rec .count) (s .list) }
 
   ordered : o < o + z
-  ordered = let k = t .some in omega arith
+  ordered = let k = t .checks .some in omega arith
 
-  now : rangesOf next ≡ after (s .rec) (s .list) o z
+  now : rangesOf next ≡ dataLeaves (s .rec) (s .list) o z
   unfolding next
-  now = counted-stored (after (s .rec) (s .list) o z) (s .rec .count) (s .list)
+  now = counted-stored (dataLeaves (s .rec) (s .list) o z) (s .rec .count) (s .list)
 
   stands : Standing next N
   unfolding next
@@ -66,9 +65,9 @@ module _ (s : State) (N : ℕ) (P : ℕ → Type 0) (n : ℕ) (h : Holds s N P n
       let g = h .standing in
       let c = g .size in
       let r = t .room in
-      let u = t .small in
+      let u = t .checks .small in
       let v = g .small in
-      standing-stored s N g (after (s .rec) (s .list) o z) (max (s .rec .progress) (o + z)) (s .rec .missing) (omega arith)
+      standing-stored s N g (dataLeaves (s .rec) (s .list) o z) (max (s .rec .progress) (o + z)) (omega arith)
       (after-whole (s .rec .missing) (s .rec .progress) o (o + z) (rangesOf s) ordered (g .whole) (g .last))
       (after-last (s .rec .missing) (s .rec .progress) o (o + z) (rangesOf s) ordered (g .whole) (g .last))
       (omega arith)
@@ -129,7 +128,7 @@ module _ (s : State) (N : ℕ) (P : ℕ → Type 0) (n : ℕ) (h : Holds s N P n
 
 -- the metadata event only clears the mark
 mark-cleared : (s : State) (N : ℕ) (P : ℕ → Type 0) (n : ℕ) → Holds s N P n
-    → Holds (record { rec = recordOf (s .rec .progress) (s .rec .count) (s .rec .width) false; list = s .list }) N P (suc n)
+    → Holds (record { rec = cleared (s .rec); list = s .list }) N P (suc n)
 mark-cleared s N P n h =
     let g = h .standing in
     let r = h .runs in
@@ -154,7 +153,7 @@ module _ (s : State) (N : ℕ) (P : ℕ → Type 0) (n : ℕ) (h : Holds s N P n
   with-kept t e x = Covers x (keptBy t e []) ⊎ P x
 
   abbrev now-known : State
-  now-known = record { rec = recordOf (s .rec .progress) (s .rec .count) (s .rec .width) false; list = s .list }
+  now-known = record { rec = cleared (s .rec); list = s .list }
 
   fits : (e : Event) (t k : Bool) (r : State) → step s e ≡ r → isAccepted s e ≡ t
       → Holds r N (with-kept (t && k) e) (cond t (suc n) n)
@@ -172,10 +171,10 @@ module _ (s : State) (N : ℕ) (P : ℕ → Type 0) (n : ℕ) (h : Holds s N P n
       go : (e : Event) (t : Bool) → isAccepted s e ≡ t → (k : Bool) → s .rec .missing ≡ not k
           → Holds (step s e) N (with-kept (isAccepted s e && k) e) (cond (isAccepted s e) (suc n) n)
       go (Data o z) true f false g =
-          let t = taken (s .rec) (s .list) o z (standing-passed s N (h .standing)) f in
+          let t = taken (s .rec) (s .list) o z f in
           fits (Data o z) true false (next s N P n h o z t) (rw f) f (kept-waiting s N P n h o z t g)
       go (Data o z) true f true g =
-          let t = taken (s .rec) (s .list) o z (standing-passed s N (h .standing)) f in
+          let t = taken (s .rec) (s .list) o z f in
           fits (Data o z) true true (next s N P n h o z t) (rw f) f (kept-known s N P n h o z t g)
       go Metadata true f false g = fits Metadata true false now-known (rw f) f (none-added now-known (suc n) (suc n) (omega arith) (mark-cleared s N P n h))
       go Metadata true f true g = fits Metadata true true now-known (rw f) f (none-added now-known (suc n) (suc n) (omega arith) (mark-cleared s N P n h))
@@ -208,7 +207,7 @@ history (e ∷ es) s N P n known g h =
     counted-more false k = omega arith
 
 -- a fresh reception with room for N, whatever the lent list holds
-module _ (w : Width) (xs : List ℕ) (N : ℕ) (size : length xs ≡ 2 * N) (few : N ≤ 4096) (es : List Event) where
+module _ (w : Width) (xs : List ℕ) (N : ℕ) (size : length xs ≡ 2 * N) (few : N ≤ mostRanges) (es : List Event) where
   abbrev start : State
   start = fresh w xs
 
@@ -256,20 +255,20 @@ module _ (w : Width) (xs : List ℕ) (N : ℕ) (size : length xs ≡ 2 * N) (few
   always-sound = standing-passed reached N (holds .standing)
 
 -- what an accepted event does to the set
-module _ (w : Width) (xs : List ℕ) (N : ℕ) (size : length xs ≡ 2 * N) (few : N ≤ 4096) (es : List Event) (o z : ℕ) where
+module _ (w : Width) (xs : List ℕ) (N : ℕ) (size : length xs ≡ 2 * N) (few : N ≤ mostRanges) (es : List Event) (o z : ℕ) where
   abbrev before : State
   before = run (fresh w xs) es
 
   -- an accepted event leaves the ranges that its definition says
-  pub left-by : isAccepted before (Data o z) ≡ true → rangesOf (step before (Data o z)) ≡ after (before .rec) (before .list) o z
-  left-by f = rw f (counted-stored (after (before .rec) (before .list) o z) (before .rec .count) (before .list))
+  pub left-by : isAccepted before (Data o z) ≡ true → rangesOf (step before (Data o z)) ≡ dataLeaves (before .rec) (before .list) o z
+  left-by f = rw f (counted-stored (dataLeaves (before .rec) (before .list) o z) (before .rec .count) (before .list))
 
   -- while the metadata is known: the range's offsets leave, those between progress and the offset become missing
   pub effect-kept : isAccepted before (Data o z) ≡ true → before .rec .missing ≡ false → (x : ℕ)
       → Covers x (rangesOf (step before (Data o z))) ↔ ((Covers x (rangesOf before) × Outside o (o + z) x) ⊎ In x (range (before .rec .progress) o))
   effect-kept f m x =
       let h = holds w xs N size few es in
-      let t = taken (before .rec) (before .list) o z (always-sound w xs N size few es) f in
-      let k = t .some in
+      let t = taken (before .rec) (before .list) o z f in
+      let k = t .checks .some in
       let e : rangesOf (step before (Data o z)) ≡ keptRanges (before .rec .progress) o (o + z) (rangesOf before) = left-by f ∙ rw m in
       rw e (kept-covers (before .rec .progress) o (o + z) (rangesOf before) (omega arith) (h .standing .whole) (h .standing .last) x)

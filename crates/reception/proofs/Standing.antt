@@ -12,20 +12,20 @@ use Rattle.ranges.specs.Range.{Range, Above, Coalesced, lastEnd}
 use Rattle.ranges.specs.Store.{counted, flat, limitOf, anyAbove, isBadStore, stored}
 use Rattle.ranges.specs.declared.Width.{Width}
 use Rattle.ranges.proofs.Stored.{counted-stored, take-stored, length-stored}
-use Rattle.ranges.proofs.Test.{of-coalesced}
 use Rattle.ranges.proofs.Good.{good-store}
 use Rattle.ranges.proofs.Without.{part-one, part-none}
 use Rattle.reception.specs.declared.Reception.{Reception}
-use Rattle.reception.specs.Record.{isBadRecord, isWaiting, waitingRanges, Passed}
+use Rattle.reception.specs.Record.{mostRanges, isBadRecord, isWaiting, waitingRanges, moved, Passed}
 use Rattle.reception.specs.Data.{dataRanges}
 use Rattle.reception.specs.History.{State, rangesOf, fresh}
 use Rattle.ranges.proofs.Last.{ends-le, last-tail}
 use Rattle.reception.proofs.Keeping.{kept-coalesced, kept-last}
 use Rattle.reception.proofs.Waits.{of-waiting}
+use Rattle.reception.proofs.Sound.{passed, ten-wait}
 
 pub record Standing (s : State) (N : ℕ) : Type 0 where
   pub size : length (s .list) ≡ 2 * N
-  pub few : N ≤ 4096
+  pub few : N ≤ mostRanges
   pub room : s .rec .count ≤ N
   pub held : take (2 * s .rec .count) (s .list) ≡ flat (rangesOf s)
   pub whole : Coalesced (rangesOf s)
@@ -41,13 +41,8 @@ none-above d top (r ∷ rs) s h =
     let l = last-tail d r rs s in
     rw (le-ltb top (r .start) (omega arith), le-ltb top (r .end) (omega arith)) (none-above (suc (r .end)) top rs (s .2) (omega arith))
 
-not-bad : (xs : List ℕ) (rec : Reception) → isBadStore xs (rec .count) (limitOf (rec .width)) ≡ false → rec .progress ≤ limitOf (rec .width)
-    → (rec .missing && not (isWaiting (rec .progress) (counted xs (rec .count)))) ≡ false → isBadRecord xs rec ≡ false
-unfolding isBadRecord
-not-bad xs rec e h w = rw (e, le-ltb (limitOf (rec .width)) (rec .progress) h) w
-
 pub standing-passed : (s : State) (N : ℕ) → Standing s N → Passed (s .list) (s .rec)
-standing-passed s N h = record { bad = bad; whole = of-coalesced (rangesOf s) (h .whole); above = h .last }
+standing-passed s N h = passed (s .list) (s .rec) bad (h .whole) (h .last)
   where
     store : isBadStore (s .list) (s .rec .count) (limitOf (s .rec .width)) ≡ false
     store =
@@ -69,7 +64,7 @@ standing-passed s N h = record { bad = bad; whole = of-coalesced (rangesOf s) (h
     waiting false e = rw e
 
     bad : isBadRecord (s .list) (s .rec) ≡ false
-    bad = not-bad (s .list) (s .rec) store (h .small) (waiting (s .rec .missing) refl)
+    bad = ten-wait (s .list) (s .rec) store (h .small) ∙ waiting (s .rec .missing) refl
 
 -- the list of a waiting record is coalesced and ends at progress
 pub waiting-whole : (p : ℕ) → Coalesced (waitingRanges p)
@@ -96,10 +91,10 @@ after-last true p a e rs lt s l = waiting-last (max p e)
 after-last false p a e rs lt s l = kept-last p a e rs lt s l
 
 -- a list of ranges stored where another stood
-pub standing-stored : (s : State) (N : ℕ) → Standing s N → (rs : List Range) (p : ℕ) (m : Bool) → length rs ≤ N → Coalesced rs → lastEnd rs ≤ p → p ≤ limitOf (s .rec .width)
-    → (m ≡ true → rs ≡ waitingRanges p)
-    → Standing (record { rec = record { progress = p; count = length rs; width = s .rec .width; missing = m }; list = stored rs (s .rec .count) (s .list) }) N
-standing-stored s N h rs p m k c l b w =
+pub standing-stored : (s : State) (N : ℕ) → Standing s N → (rs : List Range) (p : ℕ) → length rs ≤ N → Coalesced rs → lastEnd rs ≤ p → p ≤ limitOf (s .rec .width)
+    → (s .rec .missing ≡ true → rs ≡ waitingRanges p)
+    → Standing (record { rec = moved (s .rec) p (length rs); list = stored rs (s .rec .count) (s .list) }) N
+standing-stored s N h rs p k c l b w =
     let z = h .size in
     let r = h .room in
     let e : counted (stored rs (s .rec .count) (s .list)) (length rs) ≡ rs = counted-stored rs (s .rec .count) (s .list) in
@@ -115,6 +110,6 @@ standing-stored s N h rs p m k c l b w =
     }
 
 -- a fresh reception
-pub standing-fresh : (w : Width) (xs : List ℕ) (N : ℕ) → length xs ≡ 2 * N → N ≤ 4096 → Standing (fresh w xs) N
+pub standing-fresh : (w : Width) (xs : List ℕ) (N : ℕ) → length xs ≡ 2 * N → N ≤ mostRanges → Standing (fresh w xs) N
 standing-fresh w xs N z f =
     record { size = z; few = f; room = omega arith; held = refl; whole = tt; last = omega arith; small = omega arith; waits = λ q. refl }

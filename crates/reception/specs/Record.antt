@@ -1,23 +1,35 @@
--- The record of a reception: what makes it sound, and the checks that every event begins with (document 01, "Reception events").
-use Prim.Native.Nat.{ℕ, _≤_}
-use mathlib.Core.Path.{_≡_}
-use mathlib.Core.Bool.{Bool, true, false, _&&_, _||_, not, cond}
+-- The record of a reception: its literals, what makes it sound, and the checks that every event begins with (document 01, "Reception
+-- events").
+use Prim.Native.Nat.{ℕ}
+use mathlib.Core.Bool.{Bool, true, false, _&&_, _||_, not}
 use mathlib.Core.List.{List, [], _∷_}
 use lib.Dec.{ltb, eqb}
 use Rattle.ranges.specs.Range.{Range, isCoalesced, lastEnd}
 use Rattle.ranges.specs.Store.{counted, limitOf, isBadStore}
 use Rattle.ranges.specs.Without.{part}
-use Rattle.outcomes.specs.Outcome.{Outcome}
-use Rattle.outcomes.specs.Named.{notCoalesced, badStore, scopeBelowList}
+use Rattle.outcomes.specs.Checks.{Check, NoneOf}
+use Rattle.outcomes.specs.declared.Refusal.the-variants as refusal
 use Rattle.ranges.specs.declared.Width.{Width}
 use Rattle.reception.specs.declared.Reception.{Reception}
 
-abbrev pub recordOf : ℕ → ℕ → Width → Bool → Reception
-recordOf progress count width missing = record { progress = progress; count = count; width = width; missing = missing }
+-- A list holds at most 4,096 ranges, so at most 8,192 numbers.
+abbrev pub mostRanges : ℕ
+mostRanges = 4096
+
+abbrev pub mostNumbers : ℕ
+mostNumbers = 8192
 
 -- A fresh record: progress 0, empty list, metadata missing.
 abbrev pub freshRecord : Width → Reception
-freshRecord w = recordOf 0 0 w true
+freshRecord w = record { progress = 0; count = 0; width = w; missing = true }
+
+-- The record with another progress and count.
+abbrev pub moved : Reception → ℕ → ℕ → Reception
+moved rec progress count = record { progress = progress; count = count; width = rec .width; missing = rec .missing }
+
+-- The record with the missing mark cleared.
+abbrev pub known : Reception → Reception
+known rec = record { progress = rec .progress; count = rec .count; width = rec .width; missing = false }
 
 -- While waiting the list is exactly (0, progress), or empty at progress 0.
 abbrev pub waitingRanges : ℕ → List Range
@@ -35,15 +47,14 @@ isBadRecord xs rec =
     isBadStore xs (rec .count) (limitOf (rec .width))
     || (ltb (limitOf (rec .width)) (rec .progress) || (rec .missing && not (isWaiting (rec .progress) (counted xs (rec .count)))))
 
--- The record is sound: checks 10, 8 and 12 (last end above progress) pass. Else the outcome is theirs, and not the one behind them.
-abbrev pub checked : List ℕ → Reception → Outcome → Outcome
-checked xs rec behind =
-    cond (isBadRecord xs rec) badStore
-    (cond (not (isCoalesced (counted xs (rec .count)))) notCoalesced
-    (cond (ltb (rec .progress) (lastEnd (counted xs (rec .count)))) scopeBelowList behind))
+-- Checks that every event begins with: 10, 8, 12 (last end above progress).
+abbrev pub recordChecks : Reception → List ℕ → List Check
+recordChecks rec xs =
+    (isBadRecord xs rec, refusal.BadStore)
+    ∷ (not (isCoalesced (counted xs (rec .count))), refusal.NotCoalesced)
+    ∷ (ltb (rec .progress) (lastEnd (counted xs (rec .count))), refusal.ScopeBelowList)
+    ∷ []
 
--- The three checks pass.
-pub record Passed (xs : List ℕ) (rec : Reception) : Type 0 where
-  pub bad : isBadRecord xs rec ≡ false
-  pub whole : isCoalesced (counted xs (rec .count)) ≡ true
-  pub above : lastEnd (counted xs (rec .count)) ≤ rec .progress
+-- The record is sound: the three checks pass.
+abbrev pub Passed : List ℕ → Reception → Type 0
+Passed xs rec = NoneOf (recordChecks rec xs)

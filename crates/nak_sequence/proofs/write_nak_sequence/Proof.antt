@@ -1,299 +1,209 @@
--- `write_nak_sequence` meets its contract: each answer is that of the checks in order, and the buffer is as it was or holds the PDUs.
+-- `write_nak_sequence` meets its contract: a refusal of its checks leaves the buffer as it was, else the buffer holds the PDUs.
 use native.Mathlib.Omega.{arith}
-use Prim.Native.Nat.{ℕ, _+_, _*_, _-_, _≤_}
-use mathlib.Core.Path.{_≡_, sym, ap, _∙_}
+use native.Mathlib.Nat.{mul-le-mul-right}
+use mathlib.Core.Path.{_≡_, sym, ap, ap₂, _∙_}
+use mathlib.Core.List.{List, [], _∷_}
+use Prim.Native.Nat.{ℕ, _+_, _*_, _-_, _≤_, min}
 use lib.ListN.{length}
 use borrow.Author.Needs.{needs}
-use mathlib.Core.Bool.{false}
-use mathlib.Core.List.{[], _∷_}
-use native.Mathlib.Nat.{mul-le-mul-right}
-use Rattle.ranges.specs.Store.{counted}
 use Rattle.outcomes.specs.Outcome.{accepted}
-use Rattle.outcomes.specs.Named.{badStore, notCoalesced, scopeBelowList, badIdentity, pduSize, largeSegmentForNormalFileSize, badCursor, budgetTooLarge, bufferSizeMissmatch}
+use Rattle.outcomes.specs.Checks.{verdictCase, firstOf}
+use Rattle.outcomes.specs.declared.Refusal.{Refusal}
+use Rattle.outcomes.proofs.FirstOf.{first-refused, none-of}
 use Rattle.octets.specs.Flag.{fieldLength}
-use Rattle.nak.specs.Writer.{isBadIdentity}
-use Rattle.nak.proofs.Checks.{good-lengths}
-use Rattle.reception.proofs.Sound.{sound, told-bad, told-apart, told-below, told-passed}
-use Rattle.nak_sequence.specs.Sequence.{order, isBadSize, isTooLarge, asked, pduCount, sent, newCursor}
-use Rattle.nak_sequence.specs.Entries.{perPdu, naks, octetsOf}
-use Rattle.nak_sequence.proofs.Listed.{length-entries, count-le}
-use Rattle.nak_sequence.proofs.Sizes.{field-low, field-high, per-low, per-high, pdu-short, octets-short}
-use Rattle.nak_sequence.proofs.Answers.{answer, rest, seq-identity, seq-size, seq-large, seq-cursor, seq-budget, seq-buffer, seq-sent, size-high, size-low, size-fine, large-progress, large-fine}
-use Prim.Native.Nat.{min}
-use mathlib.Core.Path.{ap₂}
 use Rattle.octets.specs.Octets.{withOctets}
-use Rattle.nak_sequence.specs.Entries.{Asking, asking, entriesOf, roundedUp}
+use Rattle.nak.specs.Inner.{GoodLengths}
+use Rattle.nak.specs.Pdu.{headerLength}
+use Rattle.nak.proofs.Checks.{good-lengths}
+use Rattle.reception.specs.declared.Reception.{Reception}
+use Rattle.reception.proofs.Sound.{Sound, sound}
+use Rattle.nak_sequence.specs.Entries.{Asking, askingFor, perPdu, roundedUp, naks, octetsOf}
+use Rattle.nak_sequence.specs.Inner.{entryCount, Listed}
+use Rattle.nak_sequence.specs.Sequence.{Order, order, headerOf, largestPdu, largestBudget, asked, pduCount, sent, newCursor, sequenceChecks}
+use Rattle.nak_sequence.proofs.Listed.{length-entries, count-le}
+use Rattle.nak_sequence.proofs.Sizes.{field-low, field-high, per-high, pdu-short, octets-short, small-size, some-each, each-low}
+use Rattle.nak_sequence.proofs.Answers.{Checked, checked, done, refused-by, sent-by}
 use Rattle.nak_sequence.proofs.Chain.{at-front}
 use Rattle.nak_sequence.proofs.write_nak_sequence.Statement.{statement}
 use Rattle.nak_sequence.proofs.write_nak_sequence.Tie as tie
 
-first-fault-requires : tie.Need-first-fault-requires
-first-fault-requires c κs = search needs
+same-values : (a b c u v w : ℕ) → a ≡ u → b ≡ v → c ≡ w → accepted (a ∷ b ∷ c ∷ []) ≡ accepted (u ∷ v ∷ w ∷ [])
+same-values a b c u v w e f g = rw (e, f, g)
+
+-- the record, the list, the order and the buffer that the call begins with
+abbrev rec : tie.After-sequence-checks → Reception
+rec b = b .before .before .before .args .rec
+
+abbrev xs : tie.After-sequence-checks → List ℕ
+xs b = b .before .before .before .args .list .now
+
+abbrev ord : tie.After-sequence-checks → Order
+ord b = let a = b .before .before .before .args in order (a .identity) (a .flag) (a .largest) (a .cursor) (a .budget)
+
+abbrev buf : tie.After-sequence-checks → List ℕ
+buf b = b .before .before .before .args .buf .now
+
+-- what the PDUs share
+abbrev share : tie.After-sequence-checks → Asking
+share b = asked (rec b) (xs b) (ord b)
+
+verdict : (b : tie.After-sequence-checks) → verdictCase (b .sequence-checks .result) ≡ firstOf (sequenceChecks (rec b) (xs b) (ord b) (length (buf b))) (accepted [])
+verdict b = b .sequence-checks .ensures
+
+-- no check is met
+abbrev fromP : tie.After-enum-told → tie.After-sequence-checks
+fromP c = c .before .before
+
+checks : (c : tie.After-enum-told) → let b = fromP c in Checked (rec b) (xs b) (ord b) (length (buf b))
+checks c =
+    let b = fromP c in
+    checked (rec b) (xs b) (ord b) (length (buf b))
+    (none-of (sequenceChecks (rec b) (xs b) (ord b) (length (buf b))) (ap verdictCase (sym (c .enum-told .given .1)) ∙ verdict b))
+
+holds : (c : tie.After-enum-told) → Sound (xs (fromP c)) (rec (fromP c))
+holds c = sound (xs (fromP c)) (rec (fromP c)) (checks c .passed)
+
+lengths : (c : tie.After-enum-told) → GoodLengths (ord (fromP c) .identity)
+lengths c = good-lengths (ord (fromP c) .identity) (checks c .identity)
+
+listed : (c : tie.After-enum-told) → Listed (rec (fromP c)) (xs (fromP c))
+listed c = let s = holds c .store in (s .room, omega (arith, s .room, s .small))
+
+-- H and F
+abbrev fromF : tie.After-field-length → tie.After-enum-told
+fromF c = c .before .before
+
+header : (c : tie.After-field-length) → c .before .header-length .result ≡ headerOf (ord (fromP (fromF c)))
+header c = c .before .header-length .ensures
+
+field : (c : tie.After-field-length) → c .field-length .result ≡ fieldLength (ord (fromP (fromF c)) .flag)
+field c = c .field-length .ensures
+
+-- k
+abbrev fromK : tie.After-per-pdu → tie.After-enum-told
+fromK c = fromF (c .before)
+
+each : (c : tie.After-per-pdu) → c .per-pdu .result ≡ share (fromP (fromK c)) .each
+each c = c .per-pdu .ensures ∙ ap₂ (λ (h f : ℕ). perPdu (ord (fromP (fromK c)) .largest) h f) (header (c .before)) (field (c .before))
+
+low : (c : tie.After-per-pdu) → 1 ≤ c .per-pdu .result
+low c = omega (arith, each c, each-low (ord (fromP (fromK c))) (checks (fromK c) .size))
+
+high : (c : tie.After-per-pdu) → c .per-pdu .result ≤ largestPdu
+high c =
+    let o = ord (fromP (fromK c)) in
+    omega (arith, each c, per-high (o .largest) (headerOf o) (fieldLength (o .flag)), small-size o (checks (fromK c) .size))
+
+-- E
+abbrev fromE : tie.After-entry-count → tie.After-enum-told
+fromE c = fromK (c .before)
+
+entries : (c : tie.After-entry-count) → c .entry-count .result ≡ length (share (fromP (fromE c)) .entries)
+entries c = c .entry-count .ensures ∙ sym (length-entries (rec (fromP (fromE c))) (xs (fromP (fromE c))) (listed (fromE c) .0))
+
+few : (c : tie.After-entry-count) → c .entry-count .result ≤ largestPdu + 1
+few c = omega (arith, c .entry-count .ensures, count-le (rec (fromP (fromE c))), listed (fromE c) .1)
+
+cursor : (c : tie.After-entry-count) → ord (fromP (fromE c)) .cursor ≤ c .entry-count .result
+cursor c = omega (arith, entries c, checks (fromE c) .cursor)
+
+-- how many PDUs
+abbrev fromN : tie.After-smaller → tie.After-enum-told
+fromN c = fromE (c .before)
+
+pdus : (c : tie.After-smaller) → c .smaller .result ≡ pduCount (share (fromP (fromN c))) (ord (fromP (fromN c)))
+pdus c =
+    let o = ord (fromP (fromN c)) in
+    c .smaller .ensures ∙ ap₂ (λ (e k : ℕ). min (o .budget) (roundedUp (e - o .cursor) k)) (entries (c .before)) (each (c .before .before))
+
+-- the PDUs that are asked for, and their room
+abbrev asking : tie.After-smaller → Asking
+asking c = let o = ord (fromP (fromN c)) in askingFor (rec (fromP (fromN c))) (xs (fromP (fromN c))) (o .flag) (o .identity) (c .before .before .per-pdu .result)
+
+room : (c : tie.After-smaller) → length (octetsOf (naks (asking c) (ord (fromP (fromN c)) .cursor) (c .smaller .result))) ≤ length (buf (fromP (fromN c)))
+room c =
+    let o = ord (fromP (fromN c)) in
+    let k = checks (fromN c) in
+    let y = octets-short (asking c) (o .largest) (λ f. pdu-short (asking c) (o .largest) f (each (c .before .before)) (some-each o (k .size))) (o .cursor) (c .smaller .result) in
+    let m = mul-le-mul-right {m = c .smaller .result} {n = o .budget} (o .largest) (omega (arith, pdus c)) in
+    omega (arith, y, m, k .room)
+
+-- the octets that are written
+abbrev fromW : tie.After-write-pdus → tie.After-smaller
+fromW c = c .before .before
+
+octets : (c : tie.After-smaller) → octetsOf (naks (asking c) (ord (fromP (fromN c)) .cursor) (c .smaller .result)) ≡ sent (share (fromP (fromN c))) (ord (fromP (fromN c)))
+octets c =
+    let o = ord (fromP (fromN c)) in
+    let b = fromP (fromN c) in
+    ap₂ (λ (k m : ℕ). octetsOf (naks (askingFor (rec b) (xs b) (o .flag) (o .identity) k) (o .cursor) m)) (each (c .before .before)) (pdus c)
+
+-- the new cursor fits
+steps : (c : tie.After-smaller) → ord (fromP (fromN c)) .budget * c .before .before .per-pdu .result ≤ largestBudget * largestPdu
+steps c =
+    let o = ord (fromP (fromN c)) in
+    let m = mul-le-mul-right {m = o .budget} {n = largestBudget} (c .before .before .per-pdu .result) (checks (fromN c) .budget) in
+    omega (arith, m, high (c .before .before))
+
+sequence-checks-requires : tie.Need-sequence-checks-requires
+sequence-checks-requires c κs = search needs
+
+enum-known-found : tie.Need-enum-known-found
+enum-known-found c = search needs
 
 returns : tie.Need-returns
-returns c = let a = c .before .before .before .before .args in
-    let xs = a .list .now in
-    let rec = a .rec in
-    let o = order (a .identity) (a .flag) (a .largest) (a .cursor) (a .budget) in
-    answer rec xs o (a .buf .now) badStore (told-bad xs rec (rest rec xs o (a .buf .now)) (sym (c .before .first-fault .ensures) ∙ c .if1 .taken))
+returns c =
+    let b = c .before .before .before in
+    let r : Refusal = c .before .found .given .0 .0 in
+    refused-by (rec b) (xs b) (ord b) (buf b) r
+    (first-refused (sequenceChecks (rec b) (xs b) (ord b) (length (buf b))) r (done (rec b) (xs b) (ord b) (buf b)) (ap verdictCase (sym (c .before .found .given .1)) ∙ verdict b))
 
-returns-2 : tie.Need-returns-2
-returns-2 c = let a = c .before .before .before .before .before .args in
-    let xs = a .list .now in
-    let rec = a .rec in
-    let o = order (a .identity) (a .flag) (a .largest) (a .cursor) (a .budget) in
-    answer rec xs o (a .buf .now) notCoalesced (told-apart xs rec (rest rec xs o (a .buf .now)) (sym (c .before .before .first-fault .ensures) ∙ c .if2 .taken))
+enum-told : tie.Need-enum-told
+enum-told c = search needs
 
-returns-3 : tie.Need-returns-3
-returns-3 c = let a = c .before .before .before .before .before .before .args in
-    let xs = a .list .now in
-    let rec = a .rec in
-    let o = order (a .identity) (a .flag) (a .largest) (a .cursor) (a .budget) in
-    answer rec xs o (a .buf .now) scopeBelowList (told-below xs rec (rest rec xs o (a .buf .now)) (sym (c .before .before .before .first-fault .ensures) ∙ c .if3 .taken))
-
-bad-identity-requires : tie.Need-bad-identity-requires
-bad-identity-requires c κs = search needs
-
-returns-4 : tie.Need-returns-4
-returns-4 c = let a = c .before .before .before .before .before .before .before .before .args in
-    let xs = a .list .now in
-    let rec = a .rec in
-    let o = order (a .identity) (a .flag) (a .largest) (a .cursor) (a .budget) in
-    let f = c .before .before .before .before .before .first-fault .ensures in
-    let p = told-passed xs rec (λ e. c .before .before .before .before .if1 .left (f ∙ e)) (λ e. c .before .before .before .if2 .left (f ∙ e)) (λ e. c .before .before .if3 .left (f ∙ e)) in
-    answer rec xs o (a .buf .now) badIdentity (seq-identity rec xs o (a .buf .now) p (sym (c .before .bad-identity .ensures) ∙ c .if4 .taken))
-
-mul-h : tie.Need-mul-h
-mul-h c = let g = good-lengths (c .before .before .before .before .before .before .before .before .args .identity) (sym (c .before .bad-identity .ensures) ∙ c .if4 .left) in let u = g .entity-high in let v = g .number-high in omega arith
-
-add-h : tie.Need-add-h
-add-h c = let g = good-lengths (c .before .before .before .before .before .before .before .before .args .identity) (sym (c .before .bad-identity .ensures) ∙ c .if4 .left) in let u = g .entity-high in let v = g .number-high in omega arith
-
-add-h-2 : tie.Need-add-h-2
-add-h-2 c = let g = good-lengths (c .before .before .before .before .before .before .before .before .args .identity) (sym (c .before .bad-identity .ensures) ∙ c .if4 .left) in let u = g .entity-high in let v = g .number-high in omega arith
+header-length-requires : tie.Need-header-length-requires
+header-length-requires c κs = lengths c
 
 field-length-requires : tie.Need-field-length-requires
 field-length-requires c κs = search needs
 
-returns-5 : tie.Need-returns-5
-returns-5 c = let a = c .before .before .before .before .before .before .before .before .before .before .args in
-    let xs = a .list .now in
-    let rec = a .rec in
-    let o = order (a .identity) (a .flag) (a .largest) (a .cursor) (a .budget) in
-    let f = c .before .before .before .before .before .before .before .first-fault .ensures in
-    let p = told-passed xs rec (λ e. c .before .before .before .before .before .before .if1 .left (f ∙ e)) (λ e. c .before .before .before .before .before .if2 .left (f ∙ e)) (λ e. c .before .before .before .before .if3 .left (f ∙ e)) in
-    let d : isBadIdentity (a .identity) ≡ false = sym (c .before .before .before .bad-identity .ensures) ∙ c .before .before .if4 .left in
-    answer rec xs o (a .buf .now) pduSize (seq-size rec xs o (a .buf .now) p d (size-high o (c .if5 .taken)))
-
-add-if6 : tie.Need-add-if6
-add-if6 c = let g = good-lengths (c .before .before .before .before .before .before .before .before .before .before .args .identity) (sym (c .before .before .before .bad-identity .ensures) ∙ c .before .before .if4 .left) in let u = g .entity-high in let v = g .number-high in let k = field-high (c .before .before .before .before .before .before .before .before .before .before .args .flag) in let w = c .before .field-length .ensures in omega arith
-
-mul-if6 : tie.Need-mul-if6
-mul-if6 c = let g = good-lengths (c .before .before .before .before .before .before .before .before .before .before .args .identity) (sym (c .before .before .before .bad-identity .ensures) ∙ c .before .before .if4 .left) in let u = g .entity-high in let v = g .number-high in let k = field-high (c .before .before .before .before .before .before .before .before .before .before .args .flag) in let w = c .before .field-length .ensures in omega arith
-
-add-if6-2 : tie.Need-add-if6-2
-add-if6-2 c = let g = good-lengths (c .before .before .before .before .before .before .before .before .before .before .args .identity) (sym (c .before .before .before .bad-identity .ensures) ∙ c .before .before .if4 .left) in let u = g .entity-high in let v = g .number-high in let k = field-high (c .before .before .before .before .before .before .before .before .before .before .args .flag) in let w = c .before .field-length .ensures in omega arith
-
-returns-6 : tie.Need-returns-6
-returns-6 c = let a = c .before .before .before .before .before .before .before .before .before .before .before .args in
-    let xs = a .list .now in
-    let rec = a .rec in
-    let o = order (a .identity) (a .flag) (a .largest) (a .cursor) (a .budget) in
-    let f = c .before .before .before .before .before .before .before .before .first-fault .ensures in
-    let p = told-passed xs rec (λ e. c .before .before .before .before .before .before .before .if1 .left (f ∙ e)) (λ e. c .before .before .before .before .before .before .if2 .left (f ∙ e)) (λ e. c .before .before .before .before .before .if3 .left (f ∙ e)) in
-    let d : isBadIdentity (a .identity) ≡ false = sym (c .before .before .before .before .bad-identity .ensures) ∙ c .before .before .before .if4 .left in
-    answer rec xs o (a .buf .now) pduSize (seq-size rec xs o (a .buf .now) p d (size-low o (c .before .if5 .left) (rw (c .before .before .field-length .ensures) at (c .if6 .taken))))
-
-largest-requires : tie.Need-largest-requires
-largest-requires c κs = search needs
-
-returns-7 : tie.Need-returns-7
-returns-7 c = let a = c .before .before .before .before .before .before .before .before .before .before .before .before .before .args in
-    let xs = a .list .now in
-    let rec = a .rec in
-    let o = order (a .identity) (a .flag) (a .largest) (a .cursor) (a .budget) in
-    let f = c .before .before .before .before .before .before .before .before .before .before .first-fault .ensures in
-    let p = told-passed xs rec (λ e. c .before .before .before .before .before .before .before .before .before .if1 .left (f ∙ e)) (λ e. c .before .before .before .before .before .before .before .before .if2 .left (f ∙ e)) (λ e. c .before .before .before .before .before .before .before .if3 .left (f ∙ e)) in
-    let d : isBadIdentity (a .identity) ≡ false = sym (c .before .before .before .before .before .before .bad-identity .ensures) ∙ c .before .before .before .before .before .if4 .left in
-    let z : isBadSize o ≡ false = size-fine o (c .before .before .before .if5 .left) (rw (c .before .before .before .before .field-length .ensures) at (c .before .before .if6 .left)) in
-    answer rec xs o (a .buf .now) largeSegmentForNormalFileSize (seq-large rec xs o (a .buf .now) p d z (large-progress rec xs (a .flag) (rw (c .before .largest .ensures) at (c .if7 .taken))))
+per-pdu-requires : tie.Need-per-pdu-requires
+per-pdu-requires c κs =
+    let o = ord (fromP (fromF c)) in
+    let z = some-each o (checks (fromF c) .size) in
+    (omega (arith, z, header c, field c), (omega (arith, field c, field-low (o .flag)), omega (arith, field c, field-high (o .flag))))
 
 entry-count-requires : tie.Need-entry-count-requires
-entry-count-requires c κs = let s = sound _ _ (told-passed (c .before .before .before .before .before .before .before .before .before .before .before .before .before .args .list .now) (c .before .before .before .before .before .before .before .before .before .before .before .before .before .args .rec) (λ e. c .before .before .before .before .before .before .before .before .before .if1 .left (c .before .before .before .before .before .before .before .before .before .before .first-fault .ensures ∙ e)) (λ e. c .before .before .before .before .before .before .before .before .if2 .left (c .before .before .before .before .before .before .before .before .before .before .first-fault .ensures ∙ e)) (λ e. c .before .before .before .before .before .before .before .if3 .left (c .before .before .before .before .before .before .before .before .before .before .first-fault .ensures ∙ e)) .bad) .store in omega (arith, s .room, s .small)
-
-returns-8 : tie.Need-returns-8
-returns-8 c = let a = c .before .before .before .before .before .before .before .before .before .before .before .before .before .before .before .args in
-    let xs = a .list .now in
-    let rec = a .rec in
-    let o = order (a .identity) (a .flag) (a .largest) (a .cursor) (a .budget) in
-    let f = c .before .before .before .before .before .before .before .before .before .before .before .before .first-fault .ensures in
-    let p = told-passed xs rec (λ e. c .before .before .before .before .before .before .before .before .before .before .before .if1 .left (f ∙ e)) (λ e. c .before .before .before .before .before .before .before .before .before .before .if2 .left (f ∙ e)) (λ e. c .before .before .before .before .before .before .before .before .before .if3 .left (f ∙ e)) in
-    let d : isBadIdentity (a .identity) ≡ false = sym (c .before .before .before .before .before .before .before .before .bad-identity .ensures) ∙ c .before .before .before .before .before .before .before .if4 .left in
-    let z : isBadSize o ≡ false = size-fine o (c .before .before .before .before .before .if5 .left) (rw (c .before .before .before .before .before .before .field-length .ensures) at (c .before .before .before .before .if6 .left)) in
-    let t : isTooLarge rec xs (a .flag) ≡ false = large-fine rec xs (a .flag) p (rw (c .before .before .before .largest .ensures) at (c .before .before .if7 .left)) in
-    let s = sound xs rec (p .bad) .store in
-    let l = length-entries (rec .missing) xs (rec .count) (s .room) in
-    let n = c .before .entry-count .ensures in
-    answer rec xs o (a .buf .now) badCursor (seq-cursor rec xs o (a .buf .now) p d z t (omega (arith, l, n)))
-
-returns-9 : tie.Need-returns-9
-returns-9 c = let a = c .before .before .before .before .before .before .before .before .before .before .before .before .before .before .before .before .args in
-    let xs = a .list .now in
-    let rec = a .rec in
-    let o = order (a .identity) (a .flag) (a .largest) (a .cursor) (a .budget) in
-    let f = c .before .before .before .before .before .before .before .before .before .before .before .before .before .first-fault .ensures in
-    let p = told-passed xs rec (λ e. c .before .before .before .before .before .before .before .before .before .before .before .before .if1 .left (f ∙ e)) (λ e. c .before .before .before .before .before .before .before .before .before .before .before .if2 .left (f ∙ e)) (λ e. c .before .before .before .before .before .before .before .before .before .before .if3 .left (f ∙ e)) in
-    let d : isBadIdentity (a .identity) ≡ false = sym (c .before .before .before .before .before .before .before .before .before .bad-identity .ensures) ∙ c .before .before .before .before .before .before .before .before .if4 .left in
-    let z : isBadSize o ≡ false = size-fine o (c .before .before .before .before .before .before .if5 .left) (rw (c .before .before .before .before .before .before .before .field-length .ensures) at (c .before .before .before .before .before .if6 .left)) in
-    let t : isTooLarge rec xs (a .flag) ≡ false = large-fine rec xs (a .flag) p (rw (c .before .before .before .before .largest .ensures) at (c .before .before .before .if7 .left)) in
-    let s = sound xs rec (p .bad) .store in
-    let l = length-entries (rec .missing) xs (rec .count) (s .room) in
-    let n = c .before .before .entry-count .ensures in
-    answer rec xs o (a .buf .now) budgetTooLarge (seq-budget rec xs o (a .buf .now) p d z t (omega (arith, l, n, c .before .if8 .left)) (c .if9 .taken))
-
-mul-needed : tie.Need-mul-needed
-mul-needed c = let a = c .before .before .before .before .before .before .before .before .before .before .before .before .before .before .before .before .args in let m = mul-le-mul-right (a .largest) (c .if9 .left) in omega (arith, m, c .before .before .before .before .before .before .if5 .left)
-
-returns-10 : tie.Need-returns-10
-returns-10 c = let a = c .before .before .before .before .before .before .before .before .before .before .before .before .before .before .before .before .before .args in
-    let xs = a .list .now in
-    let rec = a .rec in
-    let o = order (a .identity) (a .flag) (a .largest) (a .cursor) (a .budget) in
-    let f = c .before .before .before .before .before .before .before .before .before .before .before .before .before .before .first-fault .ensures in
-    let p = told-passed xs rec (λ e. c .before .before .before .before .before .before .before .before .before .before .before .before .before .if1 .left (f ∙ e)) (λ e. c .before .before .before .before .before .before .before .before .before .before .before .before .if2 .left (f ∙ e)) (λ e. c .before .before .before .before .before .before .before .before .before .before .before .if3 .left (f ∙ e)) in
-    let d : isBadIdentity (a .identity) ≡ false = sym (c .before .before .before .before .before .before .before .before .before .before .bad-identity .ensures) ∙ c .before .before .before .before .before .before .before .before .before .if4 .left in
-    let z : isBadSize o ≡ false = size-fine o (c .before .before .before .before .before .before .before .if5 .left) (rw (c .before .before .before .before .before .before .before .before .field-length .ensures) at (c .before .before .before .before .before .before .if6 .left)) in
-    let t : isTooLarge rec xs (a .flag) ≡ false = large-fine rec xs (a .flag) p (rw (c .before .before .before .before .before .largest .ensures) at (c .before .before .before .before .if7 .left)) in
-    let s = sound xs rec (p .bad) .store in
-    let l = length-entries (rec .missing) xs (rec .count) (s .room) in
-    let n = c .before .before .before .entry-count .ensures in
-    answer rec xs o (a .buf .now) (bufferSizeMissmatch (a .budget * a .largest) (length (a .buf .now))) (seq-buffer rec xs o (a .buf .now) p d z t (omega (arith, l, n, c .before .before .if8 .left)) (c .before .if9 .left) (c .if10 .taken))
-
-sub-k : tie.Need-sub-k
-sub-k c = search needs
-
-sub-k-2 : tie.Need-sub-k-2
-sub-k-2 c = search needs
-
-mul-k : tie.Need-mul-k
-mul-k c = search needs
-
-sub-k-3 : tie.Need-sub-k-3
-sub-k-3 c = search needs
-
-mul-k-2 : tie.Need-mul-k-2
-mul-k-2 c = search needs
-
-div-k : tie.Need-div-k
-div-k c = let a = c .before .before .before .before .before .before .before .before .before .before .before .before .before .before .before .before .before .args in
-    let xs = a .list .now in
-    let rec = a .rec in
-    let o = order (a .identity) (a .flag) (a .largest) (a .cursor) (a .budget) in
-    let fe = c .before .before .before .before .before .before .before .before .field-length .ensures in
-    let g = c .before .before .before .before .before .before .before .before .field-length .result in
-    let h = 4 + 2 * a .identity .«entity_length» + a .identity .«number_length» in
-    let fl : 4 ≤ g = omega (arith, fe, field-low (a .flag)) in
-    let kl = per-low (a .largest) h g fl (c .before .before .before .before .before .before .if6 .left) in
-    let kh = per-high (a .largest) h g in
-    omega arith
+entry-count-requires c κs = listed (fromK c) .1
 
 sub-smaller : tie.Need-sub-smaller
-sub-smaller c = let a = c .before .before .before .before .before .before .before .before .before .before .before .before .before .before .before .before .before .args in
-    let xs = a .list .now in
-    let rec = a .rec in
-    let o = order (a .identity) (a .flag) (a .largest) (a .cursor) (a .budget) in
-    let fe = c .before .before .before .before .before .before .before .before .field-length .ensures in
-    let g = c .before .before .before .before .before .before .before .before .field-length .result in
-    let h = 4 + 2 * a .identity .«entity_length» + a .identity .«number_length» in
-    let fl : 4 ≤ g = omega (arith, fe, field-low (a .flag)) in
-    let kl = per-low (a .largest) h g fl (c .before .before .before .before .before .before .if6 .left) in
-    let kh = per-high (a .largest) h g in
-    omega arith
+sub-smaller c = omega (arith, cursor c)
+
+sub-smaller-2 : tie.Need-sub-smaller-2
+sub-smaller-2 c = omega (arith, low (c .before))
 
 add-smaller : tie.Need-add-smaller
-add-smaller c = let a = c .before .before .before .before .before .before .before .before .before .before .before .before .before .before .before .before .before .args in
-    let xs = a .list .now in
-    let rec = a .rec in
-    let o = order (a .identity) (a .flag) (a .largest) (a .cursor) (a .budget) in
-    let fe = c .before .before .before .before .before .before .before .before .field-length .ensures in
-    let g = c .before .before .before .before .before .before .before .before .field-length .result in
-    let h = 4 + 2 * a .identity .«entity_length» + a .identity .«number_length» in
-    let fl : 4 ≤ g = omega (arith, fe, field-low (a .flag)) in
-    let kl = per-low (a .largest) h g fl (c .before .before .before .before .before .before .if6 .left) in
-    let kh = per-high (a .largest) h g in
-    let s = sound xs rec (told-passed xs rec (λ e. c .before .before .before .before .before .before .before .before .before .before .before .before .before .if1 .left (c .before .before .before .before .before .before .before .before .before .before .before .before .before .before .first-fault .ensures ∙ e)) (λ e. c .before .before .before .before .before .before .before .before .before .before .before .before .if2 .left (c .before .before .before .before .before .before .before .before .before .before .before .before .before .before .first-fault .ensures ∙ e)) (λ e. c .before .before .before .before .before .before .before .before .before .before .before .if3 .left (c .before .before .before .before .before .before .before .before .before .before .before .before .before .before .first-fault .ensures ∙ e)) .bad) .store in
-    let n = c .before .before .before .entry-count .ensures in
-    let cl = count-le (rec .count) (rec .missing) in
-    omega (arith, s .room, s .small, c .before .before .before .before .before .before .before .if5 .left)
+add-smaller c = omega (arith, few c, high (c .before))
 
 div-smaller : tie.Need-div-smaller
-div-smaller c = let a = c .before .before .before .before .before .before .before .before .before .before .before .before .before .before .before .before .before .args in
-    let xs = a .list .now in
-    let rec = a .rec in
-    let o = order (a .identity) (a .flag) (a .largest) (a .cursor) (a .budget) in
-    let fe = c .before .before .before .before .before .before .before .before .field-length .ensures in
-    let g = c .before .before .before .before .before .before .before .before .field-length .result in
-    let h = 4 + 2 * a .identity .«entity_length» + a .identity .«number_length» in
-    let fl : 4 ≤ g = omega (arith, fe, field-low (a .flag)) in
-    let kl = per-low (a .largest) h g fl (c .before .before .before .before .before .before .if6 .left) in
-    let kh = per-high (a .largest) h g in
-    omega arith
+div-smaller c = omega (arith, low (c .before))
 
 smaller-requires : tie.Need-smaller-requires
 smaller-requires c κs = search needs
 
 write-pdus-requires : tie.Need-write-pdus-requires
-write-pdus-requires c κs = let a = c .before .before .before .before .before .before .before .before .before .before .before .before .before .before .before .before .before .before .before .args in
-    let xs = a .list .now in
-    let rec = a .rec in
-    let o = order (a .identity) (a .flag) (a .largest) (a .cursor) (a .budget) in
-    let fe = c .before .before .before .before .before .before .before .before .before .before .field-length .ensures in
-    let g = c .before .before .before .before .before .before .before .before .before .before .field-length .result in
-    let h = 4 + 2 * a .identity .«entity_length» + a .identity .«number_length» in
-    let fl : 4 ≤ g = omega (arith, fe, field-low (a .flag)) in
-    let kl = per-low (a .largest) h g fl (c .before .before .before .before .before .before .before .before .if6 .left) in
-    let kh = per-high (a .largest) h g in
-    let s = sound xs rec (told-passed xs rec (λ e. c .before .before .before .before .before .before .before .before .before .before .before .before .before .before .before .if1 .left (c .before .before .before .before .before .before .before .before .before .before .before .before .before .before .before .before .first-fault .ensures ∙ e)) (λ e. c .before .before .before .before .before .before .before .before .before .before .before .before .before .before .if2 .left (c .before .before .before .before .before .before .before .before .before .before .before .before .before .before .before .before .first-fault .ensures ∙ e)) (λ e. c .before .before .before .before .before .before .before .before .before .before .before .before .before .if3 .left (c .before .before .before .before .before .before .before .before .before .before .before .before .before .before .before .before .first-fault .ensures ∙ e)) .bad) .store in
-    let n = c .before .before .before .before .before .entry-count .ensures in
-    let cl = count-le (rec .count) (rec .missing) in
-    let kk : perPdu (a .largest) h g ≡ perPdu (a .largest) h (fieldLength (a .flag)) = ap (perPdu (a .largest) h) fe in
-    let d = sym (c .before .before .before .before .before .before .before .before .before .before .before .before .bad-identity .ensures) ∙ c .before .before .before .before .before .before .before .before .before .before .before .if4 .left in
-    let r = c .before .smaller .ensures ∙ ap (λ (e : ℕ). min (a .budget) (roundedUp (e - a .cursor) (perPdu (a .largest) h g))) n in
-    let q : Asking = asking (a .flag) (a .identity) (rec .progress) (entriesOf (rec .missing) (counted xs (rec .count))) (perPdu (a .largest) h g) in
-    let y = octets-short q (a .largest) (λ f. pdu-short q (a .largest) f kk (rw fe at (c .before .before .before .before .before .before .before .before .if6 .left))) (a .cursor) (c .before .smaller .result) in
-    let m = mul-le-mul-right {m = c .before .smaller .result} {n = a .budget} (a .largest) (omega (arith, r)) in
-    ((good-lengths (a .identity) d, (s .room, (omega (arith, s .room, s .small), (kl, (omega (arith, kh, c .before .before .before .before .before .before .before .before .before .if5 .left), omega (arith, r)))))), omega (arith, y, m, c .before .before .if10 .left))
+write-pdus-requires c κs =
+    let d = c .before in
+    let k = d .before .before in
+    let o = ord (fromP (fromN d)) in
+    let r = d .smaller .ensures ∙ ap (λ (e : ℕ). min (o .budget) (roundedUp (e - o .cursor) (k .per-pdu .result))) (d .before .entry-count .ensures) in
+    ((lengths (fromN d), (listed (fromN d), (low k, (high k, omega (arith, r))))), room d)
 
 mul-smaller : tie.Need-mul-smaller
-mul-smaller c = let a = c .before .before .before .before .before .before .before .before .before .before .before .before .before .before .before .before .before .before .before .before .before .before .args in
-    let xs = a .list .now in
-    let rec = a .rec in
-    let o = order (a .identity) (a .flag) (a .largest) (a .cursor) (a .budget) in
-    let fe = c .before .before .before .before .before .before .before .before .before .before .before .before .before .field-length .ensures in
-    let g = c .before .before .before .before .before .before .before .before .before .before .before .before .before .field-length .result in
-    let h = 4 + 2 * a .identity .«entity_length» + a .identity .«number_length» in
-    let fl : 4 ≤ g = omega (arith, fe, field-low (a .flag)) in
-    let kl = per-low (a .largest) h g fl (c .before .before .before .before .before .before .before .before .before .before .before .if6 .left) in
-    let kh = per-high (a .largest) h g in
-    let m = mul-le-mul-right {m = a .budget} {n = 16} (perPdu (a .largest) h g) (c .before .before .before .before .before .before .if9 .left) in
-    omega (arith, m, kh, c .before .before .before .before .before .before .before .before .before .before .before .before .if5 .left)
+mul-smaller c = omega (arith, steps (fromW (c .before .before)))
 
 add-smaller-2 : tie.Need-add-smaller-2
-add-smaller-2 c = let a = c .before .before .before .before .before .before .before .before .before .before .before .before .before .before .before .before .before .before .before .before .before .before .args in
-    let xs = a .list .now in
-    let rec = a .rec in
-    let o = order (a .identity) (a .flag) (a .largest) (a .cursor) (a .budget) in
-    let fe = c .before .before .before .before .before .before .before .before .before .before .before .before .before .field-length .ensures in
-    let g = c .before .before .before .before .before .before .before .before .before .before .before .before .before .field-length .result in
-    let h = 4 + 2 * a .identity .«entity_length» + a .identity .«number_length» in
-    let fl : 4 ≤ g = omega (arith, fe, field-low (a .flag)) in
-    let kl = per-low (a .largest) h g fl (c .before .before .before .before .before .before .before .before .before .before .before .if6 .left) in
-    let kh = per-high (a .largest) h g in
-    let s = sound xs rec (told-passed xs rec (λ e. c .before .before .before .before .before .before .before .before .before .before .before .before .before .before .before .before .before .before .if1 .left (c .before .before .before .before .before .before .before .before .before .before .before .before .before .before .before .before .before .before .before .first-fault .ensures ∙ e)) (λ e. c .before .before .before .before .before .before .before .before .before .before .before .before .before .before .before .before .before .if2 .left (c .before .before .before .before .before .before .before .before .before .before .before .before .before .before .before .before .before .before .before .first-fault .ensures ∙ e)) (λ e. c .before .before .before .before .before .before .before .before .before .before .before .before .before .before .before .before .if3 .left (c .before .before .before .before .before .before .before .before .before .before .before .before .before .before .before .before .before .before .before .first-fault .ensures ∙ e)) .bad) .store in
-    let n = c .before .before .before .before .before .before .before .before .entry-count .ensures in
-    let cl = count-le (rec .count) (rec .missing) in
-    let m = mul-le-mul-right {m = a .budget} {n = 16} (perPdu (a .largest) h g) (c .before .before .before .before .before .before .if9 .left) in
-    omega (arith, m, kh, c .before .before .before .before .before .before .before .before .before .before .before .before .if5 .left, c .before .before .before .before .before .before .before .if8 .left, n, cl, s .room, s .small)
+add-smaller-2 c = let d = fromW (c .before .before) in omega (arith, steps d, few (d .before), cursor (d .before))
 
 smaller-requires-2 : tie.Need-smaller-requires-2
 smaller-requires-2 c κs = search needs
@@ -301,66 +211,31 @@ smaller-requires-2 c κs = search needs
 same-length : tie.Need-same-length
 same-length c = search needs
 
-returns-11 : tie.Need-returns-11
-returns-11 c = let a = c .before .before .before .before .before .before .before .before .before .before .before .before .before .before .before .before .before .before .before .before .before .before .before .args in
-    let xs = a .list .now in
-    let rec = a .rec in
-    let o = order (a .identity) (a .flag) (a .largest) (a .cursor) (a .budget) in
-    let f = c .before .before .before .before .before .before .before .before .before .before .before .before .before .before .before .before .before .before .before .before .first-fault .ensures in
-    let p = told-passed xs rec (λ e. c .before .before .before .before .before .before .before .before .before .before .before .before .before .before .before .before .before .before .before .if1 .left (f ∙ e)) (λ e. c .before .before .before .before .before .before .before .before .before .before .before .before .before .before .before .before .before .before .if2 .left (f ∙ e)) (λ e. c .before .before .before .before .before .before .before .before .before .before .before .before .before .before .before .before .before .if3 .left (f ∙ e)) in
-    let d : isBadIdentity (a .identity) ≡ false = sym (c .before .before .before .before .before .before .before .before .before .before .before .before .before .before .before .before .bad-identity .ensures) ∙ c .before .before .before .before .before .before .before .before .before .before .before .before .before .before .before .if4 .left in
-    let z : isBadSize o ≡ false = size-fine o (c .before .before .before .before .before .before .before .before .before .before .before .before .before .if5 .left) (rw (c .before .before .before .before .before .before .before .before .before .before .before .before .before .before .field-length .ensures) at (c .before .before .before .before .before .before .before .before .before .before .before .before .if6 .left)) in
-    let t : isTooLarge rec xs (a .flag) ≡ false = large-fine rec xs (a .flag) p (rw (c .before .before .before .before .before .before .before .before .before .before .before .largest .ensures) at (c .before .before .before .before .before .before .before .before .before .before .if7 .left)) in
-    let s = sound xs rec (p .bad) .store in
-    let l = length-entries (rec .missing) xs (rec .count) (s .room) in
-    let n = c .before .before .before .before .before .before .before .before .before .entry-count .ensures in
-    let fe = c .before .before .before .before .before .before .before .before .before .before .before .before .before .before .field-length .ensures in
-    let g = c .before .before .before .before .before .before .before .before .before .before .before .before .before .before .field-length .result in
-    let h = 4 + 2 * a .identity .«entity_length» + a .identity .«number_length» in
-    let kk : perPdu (a .largest) h g ≡ asked rec xs o .each = ap (perPdu (a .largest) h) fe in
-    let ee : c .before .before .before .before .before .before .before .before .before .entry-count .result ≡ length (asked rec xs o .entries) = n ∙ sym l in
-    let pe : c .before .before .before .before .before .smaller .result ≡ pduCount (asked rec xs o) o =
-    c .before .before .before .before .before .smaller .ensures ∙ ap₂ (λ (e k : ℕ). min (a .budget) (roundedUp (e - a .cursor) k)) ee kk in
-    let se : octetsOf (naks (asking (a .flag) (a .identity) (rec .progress) (entriesOf (rec .missing) (counted xs (rec .count))) (perPdu (a .largest) h g)) (a .cursor) (c .before .before .before .before .before .smaller .result)) ≡ sent (asked rec xs o) o =
-    ap₂ (λ (k m : ℕ). octetsOf (naks (asking (a .flag) (a .identity) (rec .progress) (entriesOf (rec .missing) (counted xs (rec .count))) k) (a .cursor) m)) kk pe in
-    let oe : c .before .before .before .write-pdus .result ≡ length (sent (asked rec xs o) o) = c .before .before .before .write-pdus .ensures .0 ∙ ap length se in
-    let ce : c .smaller2 .result ≡ newCursor (asked rec xs o) o = c .smaller2 .ensures ∙ ap₂ (λ (e k : ℕ). min e (a .cursor + a .budget * k)) ee kk in
-    let w = answer rec xs o (a .buf .now) (accepted (pduCount (asked rec xs o) o ∷ length (sent (asked rec xs o) o) ∷ newCursor (asked rec xs o) o ∷ [])) (seq-sent rec xs o (a .buf .now) p d z t (omega (arith, l, n, c .before .before .before .before .before .before .before .before .if8 .left)) (c .before .before .before .before .before .before .before .if9 .left) (c .before .before .before .before .before .before .if10 .left)) in
-    (rw (pe, oe, ce) (w .0), c .before .before .before .write-pdus .ensures .1 ∙ ap (withOctets (a .buf .now) 0) se ∙ at-front (a .buf .now) (sent (asked rec xs o) o) ∙ w .1)
+returns-2 : tie.Need-returns-2
+returns-2 c =
+    let v = c .before .before .before in
+    let d = fromW v in
+    let b = fromP (fromN d) in
+    let o = ord b in
+    let oe : v .write-pdus .result ≡ length (sent (share b) o) = v .write-pdus .ensures .0 ∙ ap length (octets d) in
+    let ce : c .smaller2 .result ≡ newCursor (share b) o = c .smaller2 .ensures ∙ ap₂ (λ (e k : ℕ). min e (o .cursor + o .budget * k)) (entries (d .before)) (each (d .before .before)) in
+    let w = sent-by (rec b) (xs b) o (buf b) (checks (fromN d)) in
+    (same-values _ _ _ _ _ _ (pdus d) oe ce ∙ w .0, v .write-pdus .ensures .1 ∙ ap (withOctets (buf b) 0) (octets d) ∙ at-front (buf b) (sent (share b) o) ∙ w .1)
 
 pub write-nak-sequence-spec : {M : Type 1} → statement M
 write-nak-sequence-spec =
     tie.close
     (tie.spec
-    first-fault-requires
+    sequence-checks-requires
+    enum-known-found
     returns
-    returns-2
-    returns-3
-    bad-identity-requires
-    returns-4
-    mul-h
-    add-h
-    add-h-2
+    enum-told
+    header-length-requires
     field-length-requires
-    returns-5
-    add-if6
-    mul-if6
-    add-if6-2
-    returns-6
-    largest-requires
-    returns-7
+    per-pdu-requires
     entry-count-requires
-    returns-8
-    returns-9
-    mul-needed
-    returns-10
-    sub-k
-    sub-k-2
-    mul-k
-    sub-k-3
-    mul-k-2
-    div-k
     sub-smaller
+    sub-smaller-2
     add-smaller
     div-smaller
     smaller-requires
@@ -369,4 +244,4 @@ write-nak-sequence-spec =
     add-smaller-2
     smaller-requires-2
     same-length
-    returns-11)
+    returns-2)

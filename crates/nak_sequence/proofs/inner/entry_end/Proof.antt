@@ -28,7 +28,7 @@ shared-slice-read-result c = omega (arith, rw (c .before .before .if1 .taken) at
 returns-2 : tie.Need-returns-2
 returns-2 c = let a = c .before .before .before .args in
     let k = rw (c .before .before .if1 .taken) at (c .before .before .before .pre .1) in
-    rw (c .before .before .if1 .taken) (sym (end-missing (a .list .now) (a .count) (a .i) (a .i - 1) (omega arith) (omega arith) (omega arith)))
+    rw (c .before .before .if1 .taken) (sym (end-missing (a .list .now) (a .rec .count) (a .i) (a .i - 1) (omega arith) (omega arith) (omega arith)))
 
 mul-result-3 : tie.Need-mul-result-3
 mul-result-3 c = omega (arith, rw (c .if1 .left) at (c .before .pre .1))
@@ -45,7 +45,7 @@ shared-slice-read-result-2 c = omega (arith, rw (c .before .if1 .left) at (c .be
 returns-3 : tie.Need-returns-3
 returns-3 c = let a = c .before .before .args in
     let k = rw (c .before .if1 .left) at (c .before .before .pre .1) in
-    rw (c .before .if1 .left) (sym (end-known (a .list .now) (a .count) (a .i) (omega arith) (omega arith)))
+    rw (c .before .if1 .left) (sym (end-known (a .list .now) (a .rec .count) (a .i) (omega arith) (omega arith)))
 
 pub entry-end-spec : {M : Type 1} → statement M
 entry-end-spec =

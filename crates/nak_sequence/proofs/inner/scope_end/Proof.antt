@@ -7,7 +7,7 @@ use Rattle.nak_sequence.proofs.inner.scope_end.Statement.{statement}
 use Rattle.nak_sequence.proofs.inner.scope_end.Tie as tie
 
 add-if1 : tie.Need-add-if1
-add-if1 c = let a = c .before .args in omega (arith, count-le (a .count) (a .missing))
+add-if1 c = let a = c .before .args in omega (arith, count-le (a .rec))
 
 entry-count-requires : tie.Need-entry-count-requires
 entry-count-requires c κs = search needs
@@ -23,12 +23,12 @@ entry-end-requires c κs = search needs
 
 returns : tie.Need-returns
 returns c = let a = c .before .before .before .before .args in
-    rw (length-entries (a .missing) (a .list .now) (a .count) (omega arith), lt-ltb _ _ (rw (c .before .before .entry-count .ensures) at (c .before .if1 .taken)))
+    rw (length-entries (a .rec) (a .list .now) (omega arith), lt-ltb _ _ (rw (c .before .before .entry-count .ensures) at (c .before .if1 .taken)))
     (c .entry-end .ensures)
 
 returns-2 : tie.Need-returns-2
 returns-2 c = let a = c .before .before .before .args in
-    rw (length-entries (a .missing) (a .list .now) (a .count) (omega arith), le-ltb _ _ (rw (c .before .entry-count .ensures) at (c .if1 .left)))
+    rw (length-entries (a .rec) (a .list .now) (omega arith), le-ltb _ _ (rw (c .before .entry-count .ensures) at (c .if1 .left)))
 
 pub scope-end-spec : {M : Type 1} → statement M
 scope-end-spec =

@@ -3,8 +3,7 @@ use native.Mathlib.Omega.{arith}
 use Prim.Native.Nat.{_-_}
 use mathlib.Core.Path.{_∙_}
 use borrow.Author.Needs.{needs}
-use Rattle.ranges.specs.Store.{counted}
-use Rattle.nak_sequence.specs.Entries.{entriesOf}
+use Rattle.nak_sequence.specs.Entries.{entriesIn}
 use Rattle.nak_sequence.proofs.Listed.{start-behind}
 use Rattle.nak_sequence.proofs.inner.scope_start.Statement.{statement}
 use Rattle.nak_sequence.proofs.inner.scope_start.Tie as tie
@@ -20,7 +19,7 @@ entry-end-requires c κs = search needs
 
 returns-2 : tie.Need-returns-2
 returns-2 c = let a = c .before .before .before .args in
-    c .entry-end .ensures ∙ start-behind (entriesOf (a .missing) (counted (a .list .now) (a .count))) (a .f) (a .f - 1) (omega arith)
+    c .entry-end .ensures ∙ start-behind (entriesIn (a .rec) (a .list .now)) (a .f) (a .f - 1) (omega arith)
 
 pub scope-start-spec : {M : Type 1} → statement M
 scope-start-spec = tie.close (tie.spec returns sub-entry-end entry-end-requires returns-2)

@@ -38,8 +38,8 @@ write-at-requires c κs = let q = c .before .before .before .before .before .bef
     let w = c .before .before .before .smaller .ensures ∙ ap (λ (e : ℕ). min (a .k) (e - a .f)) (c .before .before .before .before .entry-count .ensures) in
     let u = c .before .before .before .before .before .before .scope-start .ensures in
     let v = c .before .before .before .before .before .scope-end .ensures in
-    let n = first-nak (a .flag) (a .identity) (a .progress) xs (a .count) (a .missing) (a .k) (a .f) _ _ _ (omega arith) u v w (c .before .before .if1 .taken) (c .before .if2 .taken) (omega arith) in
-    (q .pre .0 .0, few-first (a .flag) (a .identity) (a .progress) xs (a .count) (a .missing) (a .k) (a .f) _ _ _ (omega arith) u v w (c .before .before .if1 .taken) (c .before .if2 .taken) (omega arith), rw n (q .pre .1))
+    let n = first-nak (a .flag) (a .identity) (a .rec) xs (a .k) (a .f) _ _ _ (omega arith) u v w (c .before .before .if1 .taken) (c .before .if2 .taken) (omega arith) in
+    (q .pre .0 .0, few-first (a .flag) (a .identity) (a .rec) xs (a .k) (a .f) _ _ _ (omega arith) u v w (c .before .before .if1 .taken) (c .before .if2 .taken) (omega arith), rw n (q .pre .1))
 
 same-length : tie.Need-same-length
 same-length c = search needs
@@ -51,7 +51,7 @@ returns c = let q = c .before .before .before .before .before .before .before .b
     let w = c .before .before .before .before .before .before .smaller .ensures ∙ ap (λ (e : ℕ). min (a .k) (e - a .f)) (c .before .before .before .before .before .before .before .entry-count .ensures) in
     let u = c .before .before .before .before .before .before .before .before .before .scope-start .ensures in
     let v = c .before .before .before .before .before .before .before .before .scope-end .ensures in
-    let n = first-nak (a .flag) (a .identity) (a .progress) xs (a .count) (a .missing) (a .k) (a .f) _ _ _ (omega arith) u v w (c .before .before .before .before .before .if1 .taken) (c .before .before .before .before .if2 .taken) (omega arith) in
+    let n = first-nak (a .flag) (a .identity) (a .rec) xs (a .k) (a .f) _ _ _ (omega arith) u v w (c .before .before .before .before .before .if1 .taken) (c .before .before .before .before .if2 .taken) (omega arith) in
     let r = c .before .before .write-at .ensures in
     (r .0 ∙ ap (λ (k : Nak). a .at + length (pdu k)) n, r .1 ∙ ap (λ (k : Nak). withOctets (a .buf .now) (a .at) (pdu k)) n)
 
@@ -65,8 +65,8 @@ write-at-requires-2 c κs = let q = c .before .before .before .before .before .b
     let w = c .before .before .before .smaller .ensures ∙ ap (λ (e : ℕ). min (a .k) (e - a .f)) (c .before .before .before .before .entry-count .ensures) in
     let u = c .before .before .before .before .before .before .scope-start .ensures in
     let v = c .before .before .before .before .before .scope-end .ensures in
-    let n = later-nak (a .flag) (a .identity) (a .progress) xs (a .count) (a .missing) (a .k) (a .f) _ _ _ (omega arith) u v w (c .before .before .if1 .taken) (c .before .if2 .left) (omega arith) in
-    (q .pre .0 .0, few-later (a .flag) (a .identity) (a .progress) xs (a .count) (a .missing) (a .k) (a .f) _ _ _ (omega arith) u v w (c .before .before .if1 .taken) (c .before .if2 .left) (omega arith), rw n (q .pre .1))
+    let n = later-nak (a .flag) (a .identity) (a .rec) xs (a .k) (a .f) _ _ _ (omega arith) u v w (c .before .before .if1 .taken) (c .before .if2 .left) (omega arith) in
+    (q .pre .0 .0, few-later (a .flag) (a .identity) (a .rec) xs (a .k) (a .f) _ _ _ (omega arith) u v w (c .before .before .if1 .taken) (c .before .if2 .left) (omega arith), rw n (q .pre .1))
 
 same-length-2 : tie.Need-same-length-2
 same-length-2 c = search needs
@@ -78,7 +78,7 @@ returns-2 c = let q = c .before .before .before .before .before .before .before 
     let w = c .before .before .before .before .before .before .smaller .ensures ∙ ap (λ (e : ℕ). min (a .k) (e - a .f)) (c .before .before .before .before .before .before .before .entry-count .ensures) in
     let u = c .before .before .before .before .before .before .before .before .before .scope-start .ensures in
     let v = c .before .before .before .before .before .before .before .before .scope-end .ensures in
-    let n = later-nak (a .flag) (a .identity) (a .progress) xs (a .count) (a .missing) (a .k) (a .f) _ _ _ (omega arith) u v w (c .before .before .before .before .before .if1 .taken) (c .before .before .before .before .if2 .left) (omega arith) in
+    let n = later-nak (a .flag) (a .identity) (a .rec) xs (a .k) (a .f) _ _ _ (omega arith) u v w (c .before .before .before .before .before .if1 .taken) (c .before .before .before .before .if2 .left) (omega arith) in
     let r = c .before .before .write-at2 .ensures in
     (r .0 ∙ ap (λ (k : Nak). a .at + length (pdu k)) n, r .1 ∙ ap (λ (k : Nak). withOctets (a .buf .now) (a .at) (pdu k)) n)
 
@@ -89,8 +89,8 @@ write-at-requires-3 c κs = let q = c .before .before .before .before .before .b
     let w = c .before .before .smaller .ensures ∙ ap (λ (e : ℕ). min (a .k) (e - a .f)) (c .before .before .before .entry-count .ensures) in
     let u = c .before .before .before .before .before .scope-start .ensures in
     let v = c .before .before .before .before .scope-end .ensures in
-    let n = known-nak (a .flag) (a .identity) (a .progress) xs (a .count) (a .missing) (a .k) (a .f) _ _ _ (omega arith) u v w (c .before .if1 .left) (omega arith) in
-    (q .pre .0 .0, few-known (a .flag) (a .identity) (a .progress) xs (a .count) (a .missing) (a .k) (a .f) _ _ _ (omega arith) u v w (c .before .if1 .left) (omega arith), rw n (q .pre .1))
+    let n = known-nak (a .flag) (a .identity) (a .rec) xs (a .k) (a .f) _ _ _ (omega arith) u v w (c .before .if1 .left) (omega arith) in
+    (q .pre .0 .0, few-known (a .flag) (a .identity) (a .rec) xs (a .k) (a .f) _ _ _ (omega arith) u v w (c .before .if1 .left) (omega arith), rw n (q .pre .1))
 
 same-length-3 : tie.Need-same-length-3
 same-length-3 c = search needs
@@ -102,7 +102,7 @@ returns-3 c = let q = c .before .before .before .before .before .before .before 
     let w = c .before .before .before .before .before .smaller .ensures ∙ ap (λ (e : ℕ). min (a .k) (e - a .f)) (c .before .before .before .before .before .before .entry-count .ensures) in
     let u = c .before .before .before .before .before .before .before .before .scope-start .ensures in
     let v = c .before .before .before .before .before .before .before .scope-end .ensures in
-    let n = known-nak (a .flag) (a .identity) (a .progress) xs (a .count) (a .missing) (a .k) (a .f) _ _ _ (omega arith) u v w (c .before .before .before .before .if1 .left) (omega arith) in
+    let n = known-nak (a .flag) (a .identity) (a .rec) xs (a .k) (a .f) _ _ _ (omega arith) u v w (c .before .before .before .before .if1 .left) (omega arith) in
     let r = c .before .before .write-at3 .ensures in
     (r .0 ∙ ap (λ (k : Nak). a .at + length (pdu k)) n, r .1 ∙ ap (λ (k : Nak). withOctets (a .buf .now) (a .at) (pdu k)) n)
 

@@ -1,0 +1,156 @@
+// Inner: the checks of a record, and the list that an accepted data event leaves. Each function asks for what its callers have
+// checked, so none is a public call.
+ghost use mathlib.Core.Path.{_≡_};
+ghost use mathlib.Core.Bool.{true, false, _&&_, not};
+ghost use Prim.Native.Nat.{_+_, _*_, _<_, _≤_, max};
+ghost use lib.ListN.{length};
+ghost use Rattle.ranges.specs.Range.{Coalesced, lastEnd};
+ghost use Rattle.ranges.specs.Store.{counted, capacity, limitOf, stored};
+ghost use Rattle.ranges.specs.Inner.Cut.{cutAnswer, cutList};
+ghost use mathlib.Core.List.{[]};
+ghost use Rattle.outcomes.specs.Outcome.{accepted};
+ghost use Rattle.outcomes.specs.Checks.{verdictCase, firstOf};
+ghost use Rattle.reception.specs.Record.{mostNumbers, isWaiting, waitingRanges, recordChecks};
+ghost use Rattle.reception.specs.Data.{appended, keptRanges, dataRanges};
+use outcomes::Refusal;
+use outcomes::Verdict;
+use ranges::inner::checks::check;
+use ranges::inner::checks::last_end;
+use ranges::inner::cut::Remains;
+use ranges::inner::cut::cut;
+use ranges::inner::cut::first_from;
+use ranges::inner::cut::first_past;
+use ranges::inner::pairs::put_pair;
+use reception::Reception;
+
+// Whether the counted pairs are the list of a waiting record.
+fn is_waiting(list: &[u64], count: usize, progress: u64) -> bool
+    requires { ⌜ 2 * count ≤ length (now list) ⌝ }
+    ensures { λ r. ⌜ r ≡ isWaiting progress (counted (now (list .entry)) count) ⌝ }
+{
+    if count == 0 {
+        return progress == 0;
+    }
+    if count == 1 {
+        if 0 < progress {
+            if list[0] == 0 {
+                return list[1] == progress;
+            }
+        }
+    }
+    false
+}
+
+// Whether metadata is missing and the list is not the one stated for that.
+fn wrong_wait(list: &[u64], count: usize, progress: u64, missing: bool) -> bool
+    requires { ⌜ 2 * count ≤ length (now list) ⌝ }
+    ensures { λ r. ⌜ r ≡ (missing && not (isWaiting progress (counted (now (list .entry)) count))) ⌝ }
+{
+    if missing {
+        return !is_waiting(list, count, progress);
+    }
+    false
+}
+
+// The checks that every event begins with: 10, 8, 12.
+pub fn record_checks(rec: Reception, list: &[u64]) -> Verdict
+    ensures { λ r. ⌜ verdictCase r ≡ firstOf (recordChecks rec (now (list .entry))) (accepted []) ⌝ }
+{
+    let width = rec.width;
+    let top = width.limit();
+    let found = check(list, rec.count, top);
+    if found.bad {
+        return Verdict::Refused(Refusal::BadStore);
+    }
+    if top < rec.progress {
+        return Verdict::Refused(Refusal::BadStore);
+    }
+    if wrong_wait(list, rec.count, rec.progress, rec.missing) {
+        return Verdict::Refused(Refusal::BadStore);
+    }
+    if !found.coalesced {
+        return Verdict::Refused(Refusal::NotCoalesced);
+    }
+    if rec.progress < last_end(list, rec.count) {
+        return Verdict::Refused(Refusal::ScopeBelowList);
+    }
+    Verdict::Passed
+}
+
+// The larger of two numbers.
+pub fn larger(a: u64, b: u64) -> u64
+    ensures { λ r. ⌜ r ≡ max a b ⌝ }
+{
+    if a < b { b } else { a }
+}
+
+// While waiting: the list is (0, to).
+fn notice(list: &mut [u64], count: usize, to: u64) -> Remains
+    requires { ⌜ (count ≤ 1) × ((2 * count ≤ length (now list)) × (0 < to)) ⌝ }
+    ensures { λ r. ⌜ r ≡ cutAnswer (capacity (now (list .entry))) (waitingRanges to) ⌝ }
+    ensures { λ _. ⌜ now (list .exit) ≡ cutList (capacity (now (list .entry))) (waitingRanges to) count (now (list .entry)) ⌝ }
+{
+    if list.len() / 2 == 0 {
+        return Remains::Full;
+    }
+    put_pair(list, 0, 0, to);
+    Remains::Left(1)
+}
+
+// The gap (p, a) behind the ranges, of which none ends above p.
+fn add_gap(list: &mut [u64], count: usize, p: u64, a: u64) -> Remains
+    requires { ⌜ (2 * count ≤ length (now list)) × (length (now list) ≤ mostNumbers) ⌝ }
+    ensures { λ r. ⌜ r ≡ cutAnswer (capacity (now (list .entry))) (appended p a (counted (now (list .entry)) count)) ⌝ }
+    ensures { λ _. ⌜ now (list .exit) ≡ cutList (capacity (now (list .entry))) (appended p a (counted (now (list .entry)) count)) count (now (list .entry)) ⌝ }
+{
+    if 0 < count {
+        let l = count - 1;
+        if list[2 * l + 1] == p {
+            list[2 * l + 1] = a;
+            return Remains::Left(count);
+        }
+    }
+    if count == list.len() / 2 {
+        return Remains::Full;
+    }
+    put_pair(list, count, p, a);
+    Remains::Left(count + 1)
+}
+
+// Metadata known: the offsets of (a, e) leave, and a gap from progress p up to a is added.
+fn keep(list: &mut [u64], count: usize, p: u64, a: u64, e: u64) -> Remains
+    requires { ⌜ (2 * count ≤ length (now list)) × ((length (now list) ≤ mostNumbers) × (a < e)) ⌝ }
+    requires { ⌜ Coalesced (counted (now list) count) × (lastEnd (counted (now list) count) ≤ p) ⌝ }
+    ensures { λ r. ⌜ r ≡ cutAnswer (capacity (now (list .entry))) (keptRanges p a e (counted (now (list .entry)) count)) ⌝ }
+    ensures { λ _. ⌜ now (list .exit) ≡ cutList (capacity (now (list .entry))) (keptRanges p a e (counted (now (list .entry)) count)) count (now (list .entry)) ⌝ }
+{
+    if p < a {
+        return add_gap(list, count, p, a);
+    }
+    // Data in order: no range ends above progress.
+    if p == a {
+        return Remains::Left(count);
+    }
+    let i = first_past(list, count, a);
+    let j = first_from(list, count, i, e);
+    if i == j {
+        return Remains::Left(count);
+    }
+    let room = list.len() / 2;
+    let done = cut(list, count, i, j, a, e, room);
+    done.remains
+}
+
+// The list that an accepted data event leaves; room is judged on the number of its ranges.
+pub fn change(list: &mut [u64], count: usize, p: u64, missing: bool, a: u64, e: u64) -> Remains
+    requires { ⌜ (2 * count ≤ length (now list)) × ((length (now list) ≤ mostNumbers) × (a < e)) ⌝ }
+    requires { ⌜ Coalesced (counted (now list) count) × (lastEnd (counted (now list) count) ≤ p) ⌝ }
+    requires { ⌜ (missing ≡ true → count ≤ 1) ⌝ }
+    ensures { λ r. ⌜ r ≡ cutAnswer (capacity (now (list .entry))) (dataRanges missing p a e (counted (now (list .entry)) count)) ⌝ }
+    ensures { λ _. ⌜ now (list .exit) ≡ cutList (capacity (now (list .entry))) (dataRanges missing p a e (counted (now (list .entry)) count)) count (now (list .entry)) ⌝ }
+{
+    if missing {
+        return notice(list, count, larger(p, e));
+    }
+    keep(list, count, p, a, e)
+}
