@@ -2,8 +2,6 @@
 use native.Mathlib.Omega.{arith}
 use mathlib.Core.Path.{_≡_, refl, sym, ap}
 use Prim.Native.Nat.{ℕ}
-use lib.ListN.{getD}
-use Rattle.outcomes.specs.Outcome.{Outcome}
 use Rattle.outcomes.specs.declared.Refusal.{Refusal}
 use Rattle.outcomes.proofs.Refusals.{value, one-refusal, no-refusal}
 use Rattle.lost_segments.specs.Add.{addCase}

@@ -13,19 +13,19 @@ use Rattle.outcomes.specs.declared.Verdict.the-variants as verdict
 use Rattle.outcomes.proofs.FirstOf.{first-refused, first-none, none-of}
 use Rattle.outcomes.proofs.Refusals.{lent-refused}
 
-pub passed : (cs : List Check) (v : Verdict) → verdictCase v ≡ firstOf cs (accepted []) → v ≡ verdict.Passed → NoneOf cs
-passed cs v e f = none-of cs (ap verdictCase (sym f) ∙ e)
+pub checks-passed : (cs : List Check) (v : Verdict) → verdictCase v ≡ firstOf cs (accepted []) → v ≡ verdict.Passed → NoneOf cs
+checks-passed cs v e f = none-of cs (ap verdictCase (sym f) ∙ e)
 
-pub refused : (cs : List Check) (behind : Outcome) (v : Verdict) (r : Refusal) → verdictCase v ≡ firstOf cs (accepted []) → v ≡ verdict.Refused r
+pub checks-refused : (cs : List Check) (behind : Outcome) (v : Verdict) (r : Refusal) → verdictCase v ≡ firstOf cs (accepted []) → v ≡ verdict.Refused r
     → refusing r ≡ firstOf cs behind
-refused cs behind v r e f = first-refused cs r behind (ap verdictCase (sym f) ∙ e)
+checks-refused cs behind v r e f = first-refused cs r behind (ap verdictCase (sym f) ∙ e)
 
 -- the same with what is lent
 pub refused-end : {A : Type 0} (cs : List Check) (behind : Outcome) (v : Verdict) (r : Refusal) (new old : A)
     → verdictCase v ≡ firstOf cs (accepted []) → v ≡ verdict.Refused r
     → (refusing r ≡ firstOf cs behind) × (old ≡ lent (firstOf cs behind) new old)
 refused-end cs behind v r new old e f =
-    let g = refused cs behind v r e f in
+    let g = checks-refused cs behind v r e f in
     (g, sym (lent-refused r new old) ∙ ap (λ (o : Outcome). lent o new old) g)
 
 pub passed-end : {A : Type 0} (cs : List Check) (behind o : Outcome) (new old : A) → NoneOf cs → o ≡ behind

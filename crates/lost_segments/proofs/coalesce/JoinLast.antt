@@ -4,17 +4,13 @@ use mathlib.Core.Bool.{Bool, true, false}
 use mathlib.Core.List.{List, [], _∷_, _++_}
 use Prim.Native.Nat.{ℕ, zero, suc, _+_, _*_, _≤_, _<_, max}
 use native.Mathlib.Omega.{arith}
-use native.Mathlib.Numerals.{add-one}
-use lib.ListN.{length, getD, take, drop, set, length-append}
-use lib.Seq.{take-all, take-suc, set-getD, sets-eq}
+use lib.ListN.{length, getD, set, length-append}
 use lib.Dec.{ltb}
-use borrow.Author.Tests.{le-ltb, lt-ltb}
-use Rattle.ranges.specs.Range.{Range, range, Above, Coalesced}
-use Rattle.ranges.specs.Store.{flat, counted, stored}
-use Rattle.ranges.proofs.Flat.{at, length-counted, getD-counted, counted-last}
-use Rattle.ranges.proofs.Flat.{flat-append, flat-counted}
-use Rattle.ranges.proofs.Stored.{stored-grown, stored-push, stored-same, stored-last}
-use Rattle.ranges.proofs.Flat.{take-counted}
+use borrow.Author.Tests.{lt-ltb}
+use Rattle.ranges.specs.Range.{Range, range, Coalesced}
+use Rattle.ranges.specs.Store.{counted, stored}
+use Rattle.ranges.proofs.Flat.{at, length-counted, counted-last}
+use Rattle.ranges.proofs.Stored.{stored-push, stored-same, stored-last}
 use Rattle.ranges.specs.Insert.{joined, absorb, insert, join}
 use Rattle.ranges.proofs.Insert.{join-none, insert-over, insert-behind}
 use Rattle.lost_segments.specs.Inner.{Low}

@@ -1,6 +1,6 @@
 -- `Store::add` meets its contract: the checks refuse, or the list has one pair more.
 use native.Mathlib.Omega.{arith}
-use mathlib.Core.Path.{_≡_, refl, _∙_}
+use mathlib.Core.Path.{refl, _∙_}
 use mathlib.Core.List.{List, [], _∷_, _++_}
 use Prim.Native.Nat.{ℕ, _+_, _*_, _≤_}
 use lib.ListN.{length}
@@ -13,7 +13,7 @@ use Rattle.outcomes.specs.Outcome.{Outcome, accepted}
 use Rattle.outcomes.specs.Checks.{Check}
 use Rattle.lost_segments.specs.declared.Store.{Store}
 use Rattle.lost_segments.specs.Add.{addChecks, Takes}
-use Rattle.lost_segments.proofs.Ends.{passed, refused-end, passed-end}
+use Rattle.lost_segments.proofs.Ends.{checks-passed, refused-end, passed-end}
 use Rattle.lost_segments.proofs.add.Meaning.{takes-of, of-takes}
 use Rattle.lost_segments.proofs.Store.add.Statement.{statement}
 use Rattle.lost_segments.proofs.Store.add.Tie as tie
@@ -48,7 +48,7 @@ fromP c = c .before .before
 taken : (c : tie.After-enum-told) → let b = fromP c in Takes (xs b) (st b) (s b) (e b)
 taken c =
     let b = fromP c in
-    takes-of (xs b) (st b) (s b) (e b) (passed (checks b) _ (b .add-checks .ensures) (c .enum-told .given .1))
+    takes-of (xs b) (st b) (s b) (e b) (checks-passed (checks b) _ (b .add-checks .ensures) (c .enum-told .given .1))
 
 room : (c : tie.After-enum-told) → (2 * st (fromP c) .count + 2 ≤ length (xs (fromP c))) × (length (xs (fromP c)) ≤ mostNumbers)
 room c =

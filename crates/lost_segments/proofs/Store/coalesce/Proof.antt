@@ -1,5 +1,5 @@
 -- `Store::coalesce` meets its contract: only 10 refuses, and else the list holds the maximal runs of the counted pairs.
-use mathlib.Core.Path.{_≡_, ap, _∙_}
+use mathlib.Core.Path.{ap, _∙_}
 use mathlib.Core.List.{List, [], _∷_}
 use Prim.Native.Nat.{ℕ}
 use lib.ListN.{length}
@@ -12,7 +12,7 @@ use Rattle.outcomes.specs.Checks.{Check, NoneOf}
 use Rattle.lost_segments.specs.declared.Store.{Store}
 use Rattle.lost_segments.specs.Checks.{storeChecks}
 use Rattle.lost_segments.specs.Coalesce.{maximalRuns}
-use Rattle.lost_segments.proofs.Ends.{passed, refused-end, passed-end}
+use Rattle.lost_segments.proofs.Ends.{checks-passed, refused-end, passed-end}
 use Rattle.lost_segments.proofs.Store.coalesce.Statement.{statement}
 use Rattle.lost_segments.proofs.Store.coalesce.Tie as tie
 
@@ -41,7 +41,7 @@ abbrev fromP : tie.After-enum-told → tie.After-store-checks
 fromP c = c .before .before
 
 none : (c : tie.After-enum-told) → NoneOf (checks (fromP c))
-none c = let b = fromP c in passed (checks b) _ (b .store-checks .ensures) (c .enum-told .given .1)
+none c = let b = fromP c in checks-passed (checks b) _ (b .store-checks .ensures) (c .enum-told .given .1)
 
 store-checks-requires : tie.Need-store-checks-requires
 store-checks-requires c κs = search needs

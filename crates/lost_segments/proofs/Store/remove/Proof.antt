@@ -1,5 +1,5 @@
 -- `Store::remove` meets its contract: the checks refuse, or the coalesced list decides.
-use mathlib.Core.Path.{_≡_, _∙_}
+use mathlib.Core.Path.{_∙_}
 use mathlib.Core.List.{List}
 use Prim.Native.Nat.{ℕ}
 use borrow.Author.Needs.{needs}
@@ -10,7 +10,7 @@ use Rattle.outcomes.specs.Outcome.{Outcome}
 use Rattle.outcomes.specs.Checks.{Check}
 use Rattle.lost_segments.specs.declared.Store.{Store}
 use Rattle.lost_segments.specs.Remove.{removeCase, removeChecks, removeFrom, Passes}
-use Rattle.lost_segments.proofs.Ends.{passed, refused-end, passed-end}
+use Rattle.lost_segments.proofs.Ends.{checks-passed, refused-end, passed-end}
 use Rattle.lost_segments.proofs.remove.Meaning.{passes-of, of-passes}
 use Rattle.lost_segments.proofs.Store.remove.Statement.{statement}
 use Rattle.lost_segments.proofs.Store.remove.Tie as tie
@@ -45,7 +45,7 @@ fromP c = c .before .before
 passes : (c : tie.After-enum-told) → let b = fromP c in Passes (xs b) (st b) (from b) (to b)
 passes c =
     let b = fromP c in
-    passes-of (xs b) (st b) (from b) (to b) (passed (checks b) _ (b .remove-checks .ensures) (c .enum-told .given .1))
+    passes-of (xs b) (st b) (from b) (to b) (checks-passed (checks b) _ (b .remove-checks .ensures) (c .enum-told .given .1))
 
 remove-checks-requires : tie.Need-remove-checks-requires
 remove-checks-requires c κs = search needs

@@ -13,7 +13,7 @@ use Rattle.outcomes.proofs.FirstOf.{first-none}
 use Rattle.lost_segments.specs.declared.Store.{Store}
 use Rattle.lost_segments.specs.Checks.{storeChecks}
 use Rattle.lost_segments.specs.SegmentInStore.{inStoreOutcome}
-use Rattle.lost_segments.proofs.Ends.{passed, refused}
+use Rattle.lost_segments.proofs.Ends.{checks-passed, checks-refused}
 use Rattle.lost_segments.proofs.Store.segment_in_store.Statement.{statement}
 use Rattle.lost_segments.proofs.Store.segment_in_store.Tie as tie
 
@@ -42,7 +42,7 @@ abbrev fromP : tie.After-enum-told → tie.After-store-checks
 fromP c = c .before .before
 
 none : (c : tie.After-enum-told) → NoneOf (checks (fromP c))
-none c = let b = fromP c in passed (checks b) _ (b .store-checks .ensures) (c .enum-told .given .1)
+none c = let b = fromP c in checks-passed (checks b) _ (b .store-checks .ensures) (c .enum-told .given .1)
 
 answer : (c : tie.After-enum-told) (o : Outcome) → let b = fromP c in o ≡ behind b → o ≡ inStoreOutcome (xs b) (st b) (from b) (to b)
 answer c o h = h ∙ sym (first-none (checks (fromP c)) (behind (fromP c)) (none c))
@@ -56,7 +56,7 @@ enum-known-found c = search needs
 returns : tie.Need-returns
 returns c =
     let b = c .before .before .before in
-    refused (checks b) (behind b) _ (c .before .found .given .0 .0) (b .store-checks .ensures) (c .before .found .given .1)
+    checks-refused (checks b) (behind b) _ (c .before .found .given .0 .0) (b .store-checks .ensures) (c .before .found .given .1)
 
 enum-told : tie.Need-enum-told
 enum-told c = search needs

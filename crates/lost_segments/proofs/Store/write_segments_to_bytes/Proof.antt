@@ -2,7 +2,7 @@
 use native.Mathlib.Omega.{arith}
 use mathlib.Core.Path.{_≡_, sym, ap, _∙_}
 use mathlib.Core.List.{List, [], _∷_}
-use Prim.Native.Nat.{ℕ, _*_, _≤_}
+use Prim.Native.Nat.{ℕ, _*_}
 use lib.ListN.{length, take}
 use borrow.Author.Needs.{needs}
 use borrow.Author.Tests.{eqb-true, not-false}
@@ -16,7 +16,7 @@ use Rattle.octets.specs.Octets.{fields}
 use Rattle.octets.proofs.Over.{over-whole}
 use Rattle.lost_segments.specs.declared.Store.{Store}
 use Rattle.lost_segments.specs.WriteSegmentsToBytes.{writeLength, writeChecks}
-use Rattle.lost_segments.proofs.Ends.{passed, refused-end, passed-end}
+use Rattle.lost_segments.proofs.Ends.{checks-passed, refused-end, passed-end}
 use Rattle.lost_segments.proofs.write_segments_to_bytes.Sizes.{pair-octets, length-octets}
 use Rattle.lost_segments.proofs.Store.write_segments_to_bytes.Statement.{statement}
 use Rattle.lost_segments.proofs.Store.write_segments_to_bytes.Tie as tie
@@ -49,7 +49,7 @@ abbrev fromP : tie.After-enum-told → tie.After-write-checks
 fromP c = c .before .before
 
 none : (c : tie.After-enum-told) → NoneOf (checks (fromP c))
-none c = let b = fromP c in passed (checks b) _ (b .write-checks .ensures) (c .enum-told .given .1)
+none c = let b = fromP c in checks-passed (checks b) _ (b .write-checks .ensures) (c .enum-told .given .1)
 
 store : (c : tie.After-enum-told) → let b = fromP c in Good (xs b) (st b .count) (limitOf (st b .width))
 store c = good _ _ _ (none c .0)
