@@ -17,7 +17,7 @@ use Rattle.octets.specs.Flag.{fieldLength}
 use Rattle.octets.specs.declared.LargeFileFlag.{LargeFileFlag}
 use Rattle.octets.specs.declared.LargeFileFlag.the-variants.{Normal, Large}
 use Rattle.octets.proofs.Fields.{put-got, number-below, octets-take, octets-drop}
-use Rattle.nak.specs.Header.{wrongFixed, fixedBits0, fixedBits3, octet0, octet3, flagOf, entityLengthOf, numberLengthOf}
+use Rattle.nak.specs.Header.{wrongFixed, fixed0, fixedBits0, fixedBits3, octet0, octet3, flagOf, entityLengthOf, numberLengthOf}
 use Rattle.nak.specs.Pdu.{nakCode, headerOctets, identityOctets, dataOctets, dataField, pdu}
 use Rattle.nak.proofs.Parts.{length-data}
 use Rattle.nak_parser.specs.Parser.{octetAt, fieldAt, flagIn, fieldLengthIn, entityLengthIn, numberLengthIn, headerLengthIn, lengthField, scopeAt, requestsAt, requestsIn, identityIn, scopeIn, requestsOf, nakIn}
@@ -81,7 +81,7 @@ unfolding wrongFixed
 flag-forth o0 o3 e = go (eqb (o0 % 2) 0) refl
   where
     bits : o0 / 2 * 2 ≡ 40
-    bits = eqb-true (fixedBits0 o0) 40 (not-false _ (or-false (not (eqb (fixedBits0 o0) 40)) _ e .0))
+    bits = eqb-true (fixedBits0 o0) fixed0 (not-false _ (or-false (not (eqb (fixedBits0 o0) fixed0)) _ e .0))
 
     go : (t : Bool) → eqb (o0 % 2) 0 ≡ t → octet0 (flagOf o0) ≡ o0
     go true z = rw z (let k = eqb-true (o0 % 2) 0 z in omega (arith, bits))
@@ -90,7 +90,7 @@ flag-forth o0 o3 e = go (eqb (o0 % 2) 0) refl
 lengths-forth : (o0 o3 : ℕ) → o3 < 256 → wrongFixed o0 o3 ≡ false → octet3 (entityLengthOf o3) (numberLengthOf o3) ≡ o3
 unfolding wrongFixed
 lengths-forth o0 o3 h e =
-    let b : o3 / 128 * 128 + o3 / 8 % 2 * 8 ≡ 0 = eqb-true (fixedBits3 o3) 0 (not-false _ (or-false (not (eqb (fixedBits0 o0) 40)) _ e .1)) in
+    let b : o3 / 128 * 128 + o3 / 8 % 2 * 8 ≡ 0 = eqb-true (fixedBits3 o3) 0 (not-false _ (or-false (not (eqb (fixedBits0 o0) fixed0)) _ e .1)) in
     let d : o3 / 8 / 2 ≡ o3 / 16 = div-div-eq-div-mul o3 8 2 in
     let q : o3 / 8 % 2 ≡ 0 = omega arith in
     let m : o3 / 16 % 8 ≡ o3 / 16 = mod-eq-of-lt (omega arith) in

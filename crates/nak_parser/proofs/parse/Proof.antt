@@ -13,6 +13,7 @@ use Rattle.outcomes.specs.declared.Refusal.{Refusal}
 use Rattle.outcomes.specs.declared.Refusal.the-variants as refusal
 use Rattle.outcomes.proofs.FirstOf.{first-append, first-refused, none-of}
 use Rattle.octets.specs.Flag.{fieldLength}
+use Rattle.nak.specs.Writer.{largestPdu}
 use Rattle.nak.specs.Request.{requestsChecks}
 use Rattle.nak_parser.specs.declared.inner.Header.{Header}
 use Rattle.nak_parser.specs.Parser.{headerIn, fieldLengthIn, headerLengthIn, behindScope, requestsAt, scopeIn, requestsOf, shapeChecks, readChecks, readOutcome, acceptedParsed}
@@ -218,7 +219,7 @@ returns-5 : tie.Need-returns-5
 returns-5 c =
     let d = c .before .before in
     let q = p (startC (fromR d)) in
-    c .refused5 .ensures ∙ parsed-by q refusal.PduSize (rw (then-size d, lt-ltb 4096 (length q) (c .before .if3 .taken)))
+    c .refused5 .ensures ∙ parsed-by q refusal.PduSize (rw (then-size d, lt-ltb largestPdu (length q) (c .before .if3 .taken)))
 
 identity-in-requires : tie.Need-identity-in-requires
 identity-in-requires c κs =
@@ -232,7 +233,7 @@ returns-6 c =
     let b = fromR d in
     let q = p (startC b) in
     let g = fromG (fromC b .before) in
-    let e : readOutcome q ≡ accepted [] = rw (then-size d, le-ltb 4096 (length q) (omega (arith, c .before .if3 .left))) in
+    let e : readOutcome q ≡ accepted [] = rw (then-size d, le-ltb largestPdu (length q) (omega (arith, c .before .if3 .left))) in
     let flag = ap (λ (h : Header). h .flag) (g .before .before .before .before .header-in .ensures) in
     is-parsed q (c .identity-in .ensures) flag (scope (fromC b .before)) (place g) ∙ sym (parsed-accepted q e)
 

@@ -1,8 +1,8 @@
--- `nak::inner::bad_length` meets its contract: the tests are the definition's.
+-- `nak::inner::identity::bad_length` meets its contract: the tests are the definition's.
 use borrow.Author.Tests.{eq-eqb, ne-eqb}
 use borrow.Author.Tests.{eq-eqb, ne-eqb}
-use Rattle.nak.proofs.inner.bad_length.Statement.{statement}
-use Rattle.nak.proofs.inner.bad_length.Tie as tie
+use Rattle.nak.proofs.inner.identity.bad_length.Statement.{statement}
+use Rattle.nak.proofs.inner.identity.bad_length.Tie as tie
 
 returns : tie.Need-returns
 returns c = simp (eq-eqb _ _ (c .if1 .taken))

@@ -1,12 +1,12 @@
--- `nak::inner::any_number_above` meets its contract: each test that answers is the definition's.
+-- `nak::inner::requests::any_number_above` meets its contract: each test that answers is the definition's.
 use mathlib.Core.Path.{_≡_}
 use native.Mathlib.Nat.{le-refl}
 use lib.ListN.{length, take}
 use lib.Seq.{take-all}
 use borrow.Author.Tests.{lt-ltb, le-ltb}
 use borrow.Author.Needs.{needs}
-use Rattle.nak.proofs.inner.any_number_above.Statement.{statement}
-use Rattle.nak.proofs.inner.any_number_above.Tie as tie
+use Rattle.nak.proofs.inner.requests.any_number_above.Statement.{statement}
+use Rattle.nak.proofs.inner.requests.any_number_above.Tie as tie
 
 returns : tie.Need-returns
 returns c = simp (lt-ltb _ _ (c .if1 .taken))

@@ -1,4 +1,4 @@
--- `nak::inner::check_requests` meets its contract. The loop's invariant: the outcome of the requests ahead is that of all.
+-- `nak::inner::requests::check_requests` meets its contract. The loop's invariant: the outcome of the requests ahead is that of all.
 use Rattle.nak.proofs.Requests.{late-start, empty-one, fine-one, not-first}
 use Rattle.nak.proofs.Flat.{pairs-turn, pairs-short}
 use Rattle.nak.specs.Request.{checksFrom}
@@ -15,8 +15,8 @@ use native.Mathlib.Omega.{arith}
 use Prim.Native.Nat.{_*_, _-_, _≤_}
 use mathlib.Core.Path.{_≡_, refl, sym, _∙_}
 use lib.ListN.{drop}
-use Rattle.nak.proofs.inner.check_requests.Statement.{statement}
-use Rattle.nak.proofs.inner.check_requests.Tie as tie
+use Rattle.nak.proofs.inner.requests.check_requests.Statement.{statement}
+use Rattle.nak.proofs.inner.requests.check_requests.Tie as tie
 
 -- what the checks of requests say
 abbrev said : Bool → List Range → Outcome

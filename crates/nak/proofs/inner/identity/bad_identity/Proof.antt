@@ -1,10 +1,10 @@
--- `nak::inner::bad_identity` meets its contract: the tests are the definition's, in its order.
+-- `nak::inner::identity::bad_identity` meets its contract: the tests are the definition's, in its order.
 use borrow.Author.Tests.{not-true, not-false}
 use Rattle.nak.specs.Writer.{isBadIdentity}
 use mathlib.Core.Path.{sym, _∙_}
 use borrow.Author.Needs.{needs}
-use Rattle.nak.proofs.inner.bad_identity.Statement.{statement}
-use Rattle.nak.proofs.inner.bad_identity.Tie as tie
+use Rattle.nak.proofs.inner.identity.bad_identity.Statement.{statement}
+use Rattle.nak.proofs.inner.identity.bad_identity.Tie as tie
 
 bad-length-requires : tie.Need-bad-length-requires
 bad-length-requires c κs = search needs

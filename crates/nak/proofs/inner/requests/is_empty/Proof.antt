@@ -1,9 +1,9 @@
--- `nak::inner::is_empty` meets its contract: the tests are the definition's.
+-- `nak::inner::requests::is_empty` meets its contract: the tests are the definition's.
 use borrow.Author.Tests.{eq-eqb, ne-eqb}
 use Rattle.nak.proofs.Requests.{first-empty}
 use borrow.Author.Tests.{eq-eqb, ne-eqb}
-use Rattle.nak.proofs.inner.is_empty.Statement.{statement}
-use Rattle.nak.proofs.inner.is_empty.Tie as tie
+use Rattle.nak.proofs.inner.requests.is_empty.Statement.{statement}
+use Rattle.nak.proofs.inner.requests.is_empty.Tie as tie
 
 returns : tie.Need-returns
 returns c = simp (ne-eqb _ _ (c .if1 .taken))

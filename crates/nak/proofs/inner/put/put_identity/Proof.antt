@@ -1,8 +1,18 @@
--- `nak::inner::put_identity` meets its contract: the fields written side by side are the identity.
+-- `nak::inner::put::put_identity` meets its contract: the fields written side by side are the identity.
 use Rattle.nak.proofs.Puts.{identity-puts}
 use borrow.Author.Needs.{needs}
-use Rattle.nak.proofs.inner.put_identity.Statement.{statement}
-use Rattle.nak.proofs.inner.put_identity.Tie as tie
+use Rattle.nak.proofs.inner.put.put_identity.Statement.{statement}
+use Rattle.nak.proofs.inner.put.put_identity.Tie as tie
+
+-- behind each field that is put
+abbrev from3 : tie.After-put3 → tie.After-put2
+from3 c = c .before .before .before .before
+
+abbrev from2 : tie.After-put2 → tie.After-put
+from2 c = c .before .before .before .before
+
+abbrev start : tie.After-put → tie.Start
+start c = c .before .before .before
 
 put-requires : tie.Need-put-requires
 put-requires c κs = search needs
@@ -27,8 +37,11 @@ same-length c = search needs
 
 returns : tie.Need-returns
 returns c =
-    let a = c .before .before .before .before .before .before .before .before .before .before .before .before .before .args in
-    identity-puts (a .buf .now) (a .at) (a .identity) (c .before .before .before .before .before .before .before .before .before .before .put .ensures) (c .before .before .before .before .before .before .put2 .ensures) (c .before .before .put3 .ensures) (c .before .before .before .before .before .before .before .before .before .before .before .before .before .pre)
+    let p3 = c .before .before in
+    let p2 = from3 p3 in
+    let p1 = from2 p2 in
+    let s = start p1 in
+    identity-puts (s .args .buf .now) (s .args .at) (s .args .identity) (p1 .put .ensures) (p2 .put2 .ensures) (p3 .put3 .ensures) (s .pre)
 
 pub put-identity-spec : {M : Type 1} → statement M
 put-identity-spec =

@@ -1,8 +1,8 @@
--- `nak::inner::bad_list` meets its contract: the tests are the definition's.
+-- `nak::inner::requests::bad_list` meets its contract: the tests are the definition's.
 use Rattle.nak.specs.Writer.{isBadList}
 use borrow.Author.Tests.{eq-eqb, ne-eqb}
-use Rattle.nak.proofs.inner.bad_list.Statement.{statement}
-use Rattle.nak.proofs.inner.bad_list.Tie as tie
+use Rattle.nak.proofs.inner.requests.bad_list.Statement.{statement}
+use Rattle.nak.proofs.inner.requests.bad_list.Tie as tie
 
 returns : tie.Need-returns
 unfolding isBadList

@@ -1,11 +1,25 @@
--- `nak::inner::put_header` meets its contract: the octets written side by side are the header.
+-- `nak::inner::put::put_header` meets its contract: the octets written side by side are the header.
 use Rattle.nak.proofs.Puts.{flag-low, header-puts}
+use Rattle.nak.specs.Header.{fixed0}
 use native.Mathlib.Omega.{arith}
 use Prim.Native.Nat.{ℕ, _+_}
 use mathlib.Core.Path.{ap, _∙_}
 use borrow.Author.Needs.{needs}
-use Rattle.nak.proofs.inner.put_header.Statement.{statement}
-use Rattle.nak.proofs.inner.put_header.Tie as tie
+use Rattle.nak.proofs.inner.put.put_header.Statement.{statement}
+use Rattle.nak.proofs.inner.put.put_header.Tie as tie
+
+-- behind each octet that is put
+abbrev from3 : tie.After-put3 → tie.After-put2
+from3 c = c .before .before .before .before .before
+
+abbrev from2 : tie.After-put2 → tie.After-put
+from2 c = c .before .before .before .before .before
+
+abbrev start : tie.After-put → tie.Start
+start c = c .before .before .before .before
+
+cast-put : tie.Need-cast-put
+cast-put c = search needs
 
 flag-bit-requires : tie.Need-flag-bit-requires
 flag-bit-requires c κs = search needs
@@ -51,13 +65,25 @@ same-length c = search needs
 
 returns : tie.Need-returns
 returns c =
-    let a = c .before .before .before .before .before .before .before .before .before .before .before .before .before .before .before .before .args in
-    header-puts (a .buf .now) (a .at) (a .flag) (a .i) (a .q) (a .len) (ap (λ (v : ℕ). 40 + v) (c .before .before .before .before .before .before .before .before .before .before .before .before .before .flag-bit .ensures)) (c .before .before .before .before .before .before .before .before .wide .ensures) (c .before .before .before .wide2 .ensures ∙ omega arith) (c .before .before .before .before .before .before .before .before .before .before .before .before .put .ensures) (c .before .before .before .before .before .before .before .put2 .ensures) (c .before .before .put3 .ensures) (omega arith)
+    let p3 = c .before .before in
+    let p2 = from3 p3 in
+    let p1 = from2 p2 in
+    let s = start p1 in
+    let octet0 = ap (λ (v : ℕ). fixed0 + v) (p1 .before .flag-bit .ensures) in
+    header-puts (s .args .buf .now) (s .args .at) (s .args .flag) (s .args .i) (s .args .q) (s .args .len)
+    octet0
+    (p2 .before .wide .ensures)
+    (p3 .before .wide2 .ensures ∙ omega arith)
+    (p1 .put .ensures)
+    (p2 .put2 .ensures)
+    (p3 .put3 .ensures)
+    (omega arith)
 
 pub put-header-spec : {M : Type 1} → statement M
 put-header-spec =
     tie.close
     (tie.spec
+    cast-put
     flag-bit-requires
     add-put
     put-requires
