@@ -15,7 +15,7 @@ ghost use Rattle.outcomes.specs.Refusal.{refusing};
 ghost use Rattle.outcomes.specs.Checks.{firstOf, verdictCase};
 ghost use Rattle.nak.specs.Header.{wrongFixed, flagOf};
 ghost use Rattle.nak.specs.Request.{requestsChecks};
-ghost use Rattle.nak_parser.specs.Parser.{headerIn, headerLengthIn, requestsIn, identityIn, isWrongLength, isWrongData, shapeChecks, refusedParsed};
+ghost use Rattle.nak_parser.specs.Parser.{headerIn, headerLengthIn, requestsIn, packetIdentity, isWrongLength, isWrongData, shapeChecks, refusedParsed};
 use crate::Parsed;
 use nak::FIXED_BITS;
 use nak::Identity;
@@ -121,7 +121,7 @@ pub fn shape(packet: &[u8], header: Header) -> Verdict
 // Source entity, sequence number, destination entity.
 pub fn identity_in(packet: &[u8], header: Header) -> Identity
     requires { ⌜ (headerLengthIn (now packet) ≤ length (now packet)) × (header ≡ headerIn (now packet)) ⌝ }
-    ensures { λ r. ⌜ r ≡ identityIn (now (packet .entry)) ⌝ }
+    ensures { λ r. ⌜ r ≡ packetIdentity (now (packet .entry)) ⌝ }
 {
     let i = header.entity_length;
     let q = header.number_length;

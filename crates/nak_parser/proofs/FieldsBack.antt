@@ -24,7 +24,7 @@ use Rattle.nak.specs.Pdu.{Nak, nakCode, headerOctets, identityOctets, dataOctet
 use Rattle.nak.specs.Inner.{GoodLengths}
 use Rattle.nak.proofs.Parts.{length-header, length-data, length-pdu}
 use Rattle.nak.proofs.Checks.{good-lengths, GoodNumbers, good-numbers, NakFine}
-use Rattle.nak_parser.specs.Parser.{octetAt, fieldAt, flagIn, fieldLengthIn, entityLengthIn, numberLengthIn, headerLengthIn, lengthField, scopeAt, requestsAt, requestsIn, identityIn, scopeIn, requestsOf, nakIn, wrongLength, wrongData, readOutcome}
+use Rattle.nak_parser.specs.Parser.{octetAt, fieldAt, packetFlag, fieldLengthIn, entityLengthIn, numberLengthIn, headerLengthIn, lengthField, scopeAt, requestsAt, requestsIn, packetIdentity, scopeIn, packetRequests, nakIn, wrongLength, wrongData, readOutcome}
 use Rattle.nak_parser.proofs.Reading.{header-is, Shape, shape-of, read-fine}
 
 -- the number of a field that stands behind x
@@ -85,8 +85,8 @@ module _ (n : Nak) (fine : NakFine n) where
   lengths : GoodLengths (n .identity)
   lengths = good-lengths (n .identity) (fine .identity)
 
-  pub flag-back : flagIn (pdu n) ≡ n .flag
-  unfolding flagIn pdu headerOctets
+  pub flag-back : packetFlag (pdu n) ≡ n .flag
+  unfolding packetFlag pdu headerOctets
   flag-back = flag-of (n .flag)
 
   pub field-length-back : fieldLengthIn (pdu n) ≡ fieldLength (n .flag)
@@ -188,8 +188,8 @@ module _ (n : Nak) (fine : NakFine n) where
   unfolding de
   destination-back = field-back (header n ++ so ++ nu) (field 1 nakCode ++ (st ++ (en ++ re))) _ _ _ (whole ∙ simp append-assoc) before2 (numbers .destination)
 
-  pub identity-back : identityIn (pdu n) ≡ n .identity
-  unfolding identityIn
+  pub identity-back : packetIdentity (pdu n) ≡ n .identity
+  unfolding packetIdentity
   identity-back = rw (entity-length-back, number-length-back, source-back, number-back, destination-back)
 
   pub code-back : octetAt (pdu n) (headerLengthIn (pdu n)) ≡ nakCode
@@ -226,8 +226,8 @@ module _ (n : Nak) (fine : NakFine n) where
   total : length (pdu n) ≡ headerLengthIn (pdu n) + (1 + fieldLength (n .flag) * (2 + 2 * length (n .requests)))
   total = length-pdu n ∙ rw (header-length-back, data-length)
 
-  pub requests-of-back : requestsOf (pdu n) ≡ n .requests
-  unfolding requestsOf
+  pub requests-of-back : packetRequests (pdu n) ≡ n .requests
+  unfolding packetRequests
   requests-of-back =
       let a = below-top (n .flag) (n .scope .start) (n .scope .end ∷ flat (n .requests)) (fine .numbers) in
       let b = below-top (n .flag) (n .scope .end) (flat (n .requests)) (a .1) in

@@ -20,7 +20,7 @@ use Rattle.octets.proofs.Fields.{put-got, number-below, octets-take, octets-dro
 use Rattle.nak.specs.Header.{wrongFixed, fixed0, fixedBits0, fixedBits3, octet0, octet3, flagOf, entityLengthOf, numberLengthOf}
 use Rattle.nak.specs.Pdu.{nakCode, headerOctets, identityOctets, dataOctets, dataField, pdu}
 use Rattle.nak.proofs.Parts.{length-data}
-use Rattle.nak_parser.specs.Parser.{octetAt, fieldAt, flagIn, fieldLengthIn, entityLengthIn, numberLengthIn, headerLengthIn, lengthField, scopeAt, requestsAt, requestsIn, identityIn, scopeIn, requestsOf, nakIn}
+use Rattle.nak_parser.specs.Parser.{octetAt, fieldAt, packetFlag, fieldLengthIn, entityLengthIn, numberLengthIn, headerLengthIn, lengthField, scopeAt, requestsAt, requestsIn, packetIdentity, scopeIn, packetRequests, nakIn}
 use Rattle.nak_parser.proofs.Reading.{Read, header-is}
 
 -- an octet of octets is below 256
@@ -106,7 +106,7 @@ room-forth Normal total h len a b c = omega arith
 room-forth Large total h len a b c = omega arith
 
 -- F of a packet is that of its flag
-pub f-is : (p : List ℕ) → fieldLengthIn p ≡ fieldLength (flagIn p)
+pub f-is : (p : List ℕ) → fieldLengthIn p ≡ fieldLength (packetFlag p)
 unfolding fieldLengthIn
 f-is p = refl
 
@@ -118,22 +118,22 @@ requests-at p = refl
 pub requests-room : (p : List ℕ) → Read p → length p - requestsAt p ≡ (length p - requestsAt p) / (2 * fieldLengthIn p) * (2 * fieldLengthIn p)
 requests-room p r =
     let t = r .shape in
-    rw (requests-at p, f-is p) (room-forth (flagIn p) (length p) (headerLengthIn p) (lengthField p) (t .total) (rw (f-is p) at (t .room)) (rw (f-is p) at (t .whole)))
+    rw (requests-at p, f-is p) (room-forth (packetFlag p) (length p) (headerLengthIn p) (lengthField p) (t .total) (rw (f-is p) at (t .room)) (rw (f-is p) at (t .whole)))
 
 module _ (p : List ℕ) (a : AllOctets p) (r : Read p) where
   scope-at : scopeAt p ≡ headerLengthIn p + 1
   unfolding scopeAt
   scope-at = refl
 
-  e6 : fields (fieldLengthIn p) (flat (requestsOf p)) ≡ drop (requestsAt p) p
-  unfolding requestsOf
+  e6 : fields (fieldLengthIn p) (flat (packetRequests p)) ≡ drop (requestsAt p) p
+  unfolding packetRequests
   e6 = requests-forth (fieldLengthIn p) ((length p - requestsAt p) / (2 * fieldLengthIn p)) (drop (requestsAt p) p) (octets-drop (requestsAt p) p a) (length-drop (requestsAt p) p ∙ requests-room p r)
 
-  e5 : field (fieldLengthIn p) (scopeIn p .end) ++ fields (fieldLengthIn p) (flat (requestsOf p)) ≡ drop (scopeAt p + fieldLengthIn p) p
+  e5 : field (fieldLengthIn p) (scopeIn p .end) ++ fields (fieldLengthIn p) (flat (packetRequests p)) ≡ drop (scopeAt p + fieldLengthIn p) p
   unfolding scopeIn
   e5 = let t = r .shape in let q = requests-at p in let w = scope-at in field-forth p (scopeAt p + fieldLengthIn p) (fieldLengthIn p) (requestsAt p) a (omega arith) (omega arith) e6
 
-  e4 : field (fieldLengthIn p) (scopeIn p .start) ++ (field (fieldLengthIn p) (scopeIn p .end) ++ fields (fieldLengthIn p) (flat (requestsOf p))) ≡ drop (scopeAt p) p
+  e4 : field (fieldLengthIn p) (scopeIn p .start) ++ (field (fieldLengthIn p) (scopeIn p .end) ++ fields (fieldLengthIn p) (flat (packetRequests p))) ≡ drop (scopeAt p) p
   unfolding scopeIn
   e4 = let t = r .shape in let w = scope-at in field-forth p (scopeAt p) (fieldLengthIn p) (scopeAt p + fieldLengthIn p) a refl (omega arith) e5
 
@@ -141,8 +141,8 @@ module _ (p : List ℕ) (a : AllOctets p) (r : Read p) where
   unfolding dataOctets fieldLengthIn
   e3 = let t = r .shape in let w = scope-at in octet-forth p (headerLengthIn p) (scopeAt p) nakCode a (sym (t .code)) (omega arith) (omega arith) e4
 
-  e0 : identityOctets (identityIn p) ++ dataField (nakIn p) ≡ drop 4 p
-  unfolding identityOctets identityIn
+  e0 : identityOctets (packetIdentity p) ++ dataField (nakIn p) ≡ drop 4 p
+  unfolding identityOctets packetIdentity
   e0 =
       let t = r .shape in
       let h = header-is p in
@@ -154,15 +154,15 @@ module _ (p : List ℕ) (a : AllOctets p) (r : Read p) where
       simp append-assoc e
 
   data-length : length (dataField (nakIn p)) ≡ lengthField p
-  unfolding requestsOf
+  unfolding packetRequests
   data-length =
       let t = r .shape in
-      length-data (fieldLength (flagIn p)) (scopeIn p) (requestsOf p)
-      ∙ rw (length-flat (requestsOf p), length-requests-in (fieldLengthIn p) ((length p - requestsAt p) / (2 * fieldLengthIn p)) (drop (requestsAt p) p), requests-at p, f-is p)
-      (count-forth (flagIn p) (length p) (headerLengthIn p) (lengthField p) (t .total) (rw (f-is p) at (t .room)) (rw (f-is p) at (t .whole)))
+      length-data (fieldLength (packetFlag p)) (scopeIn p) (packetRequests p)
+      ∙ rw (length-flat (packetRequests p), length-requests-in (fieldLengthIn p) ((length p - requestsAt p) / (2 * fieldLengthIn p)) (drop (requestsAt p) p), requests-at p, f-is p)
+      (count-forth (packetFlag p) (length p) (headerLengthIn p) (lengthField p) (t .total) (rw (f-is p) at (t .room)) (rw (f-is p) at (t .whole)))
 
-  flag-is : octet0 (flagIn p) ≡ octetAt p 0
-  unfolding flagIn
+  flag-is : octet0 (packetFlag p) ≡ octetAt p 0
+  unfolding packetFlag
   flag-is = flag-forth (octetAt p 0) (octetAt p 3) (r .shape .fixed)
 
   lengths-are : octet3 (entityLengthIn p) (numberLengthIn p) ≡ octetAt p 3
@@ -175,11 +175,11 @@ module _ (p : List ℕ) (a : AllOctets p) (r : Read p) where
 
   -- writing what was read gives back every octet: every accepted packet is the PDU of its fields
   pub pdu-forth : pdu (nakIn p) ≡ p
-  unfolding pdu headerOctets identityIn
+  unfolding pdu headerOctets packetIdentity
   pdu-forth =
       let t = r .shape in
       let n = t .enough in
       let h3 = octet-forth p 3 4 (octet3 (entityLengthIn p) (numberLengthIn p)) a lengths-are refl n e0 in
       let h1 = field-forth p 1 2 3 a refl (omega arith) h3 in
-      let h0 = octet-forth p 0 1 (octet0 (flagIn p)) a flag-is refl (omega arith) (ap (λ (os : List ℕ). os ++ (field 1 (octet3 (entityLengthIn p) (numberLengthIn p)) ++ (identityOctets (identityIn p) ++ dataField (nakIn p)))) length-is ∙ h1) in
+      let h0 = octet-forth p 0 1 (octet0 (packetFlag p)) a flag-is refl (omega arith) (ap (λ (os : List ℕ). os ++ (field 1 (octet3 (entityLengthIn p) (numberLengthIn p)) ++ (identityOctets (packetIdentity p) ++ dataField (nakIn p)))) length-is ∙ h1) in
       h0

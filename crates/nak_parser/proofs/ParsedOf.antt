@@ -7,7 +7,7 @@ use native.Mathlib.Omega.{arith}
 use lib.Dec.{eqb}
 use lib.ListN.{length, take, drop, length-drop}
 use lib.Seq.{take-all}
-use borrow.Author.Tests.{eqb-true, eqb-false, ne-eqb, le-ltb, lt-ltb}
+use borrow.Author.Tests.{eqb-true, eqb-false, ne-eqb, lt-ltb}
 use Rattle.outcomes.specs.Outcome.{accepted, lent}
 use Rattle.ranges.specs.Range.{Range, range}
 use Rattle.octets.specs.declared.LargeFileFlag.{LargeFileFlag}
@@ -17,8 +17,7 @@ use Rattle.outcomes.specs.Named.{lengthMismatch}
 use Rattle.outcomes.specs.Refusal.{refusing}
 use Rattle.outcomes.specs.declared.Refusal.{Refusal}
 use Rattle.outcomes.proofs.Refusals.{refuses}
-use Rattle.nak_parser.specs.Parser.{flagIn, fieldLengthIn, identityIn, scopeIn, scopeAt, requestsAt, readOutcome, acceptedParsed, refusedParsed, parsedOf, requestsPart}
-use Rattle.nak_parser.specs.Step.{atEnd}
+use Rattle.nak_parser.specs.Parser.{packetFlag, fieldLengthIn, packetIdentity, scopeIn, scopeAt, requestsAt, readOutcome, acceptedParsed, refusedParsed, parsedOf, requestsPart}
 use Rattle.nak_parser.proofs.Reading.{Read, read-of}
 
 -- an accepted packet of this identity, flag and scope, its requests from here to there
@@ -58,8 +57,8 @@ short p h = rw (lt-ltb (length p) 4 h)
 -- the values that the code finds are those of the definition
 pub is-parsed :
     (p : List ℕ) {d : Identity} {g : LargeFileFlag} {a b from : ℕ}
-    → d ≡ identityIn p
-    → g ≡ flagIn p
+    → d ≡ packetIdentity p
+    → g ≡ packetFlag p
     → range a b ≡ scopeIn p
     → from ≡ requestsAt p
     → parsedWith d g (range a b) from (length p) ≡ acceptedParsed p
@@ -102,12 +101,3 @@ part-if p false e =
 
 pub part-of : (p : List ℕ) → Part p
 part-of p = part-if p (eqb (readOutcome p .number) 0) refl
-
--- a reader is at its end, or has a request left
-pub at-end : (p : List ℕ) (at : ℕ) → length p - at < 2 * fieldLengthIn p → atEnd p at ≡ true
-unfolding atEnd
-at-end p at h = lt-ltb (length p - at) (2 * fieldLengthIn p) h
-
-pub not-at-end : (p : List ℕ) (at : ℕ) → 2 * fieldLengthIn p ≤ length p - at → atEnd p at ≡ false
-unfolding atEnd
-not-at-end p at h = le-ltb (length p - at) (2 * fieldLengthIn p) h
