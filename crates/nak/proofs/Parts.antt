@@ -60,29 +60,17 @@ length-entries m xs first count h =
     rw (flat-entries m xs first count h, length-append (flat (asked m)), length-take-le (2 * count) (drop (2 * first) xs) (omega arith))
 
 -- how much room each part of the data field takes
-pub data-room : (f : ℕ) (m : Bool) (count : ℕ) → f * (2 + length (flat (asked m)) + 2 * count) ≡ 2 * f + length (fields f (flat (asked m))) + f * (2 * count)
+pub data-room : (f : ℕ) (m : Bool) (count : ℕ) → f * (2 + (length (flat (asked m)) + 2 * count)) ≡ 2 * f + length (fields f (flat (asked m))) + f * (2 * count)
 data-room f m count = rw (length-fields f (flat (asked m)), mul-add, mul-add) (omega arith)
 
 -- two numbers for the metadata request
 pub length-asked : (f : ℕ) → length (fields f (flat (asked true))) ≡ f + f
 length-asked f = rw (length-append (field f 0), length-field f 0) (rw (length-append (field f 0), length-field f 0) (omega arith))
 
-pub asked-low : (m : Bool) → length (flat (asked m)) ≤ 2
-asked-low true = omega arith
-asked-low false = omega arith
+pub asked-room : (m : Bool) (f : ℕ) → m ≡ true → length (fields f (flat (asked m))) ≡ f + f
+asked-room m f e = rw e (length-asked f)
 
--- the length of the data field as the code sums it up, which is at least the number of its numbers
-pub data-length :
-    (g : LargeFileFlag) (m : Bool) (xs : List ℕ) (first count : ℕ) (s : Range) {f a : ℕ}
-    → f ≡ fieldLength g
-    → a ≡ length (flat (asked m))
-    → 2 * first + 2 * count ≤ length xs
-    → 1 + f * (2 + a + 2 * count) ≡ length (dataOctets (fieldLength g) s (entries m xs first count))
-data-length g m xs first count s {f} {a} e h k =
-    let l = length-entries m xs first count k in
-    let c : 2 + a + 2 * count ≡ 2 + length (flat (entries m xs first count)) = omega arith in
-    rw (length-data (fieldLength g) s (entries m xs first count), ← c, e)
-
+-- a data field is at least as long as the number of its numbers
 pub data-low : (g : LargeFileFlag) (n : ℕ) → n ≤ fieldLength g * n
 data-low Normal n = omega arith
 data-low Large n = omega arith

@@ -2,6 +2,15 @@
 pub mod inner;
 pub mod writer;
 
+// A PDU has at most 4,096 octets.
+pub const LARGEST_PDU: usize = 4096;
+
+// Octet 0 but for its lowest bit, the large file flag: `fixed0` in specs/Header.antt.
+pub const FIXED_BITS: u8 = 40;
+
+// The directive code of a NAK.
+pub const NAK_CODE: u8 = 8;
+
 // Source entity and destination entity, identifiers of `entity_length` octets, and the transaction's sequence number, of
 // `number_length` octets.
 pub struct Identity {

@@ -1,6 +1,12 @@
 // Writing one PDU.
 use crate::Identity;
-use crate::inner;
+use crate::LARGEST_PDU;
+use crate::inner::bad_identity;
+use crate::inner::lengths::pdu_length;
+use crate::inner::requests::any_number_above;
+use crate::inner::requests::bad_list;
+use crate::inner::requests::check_requests;
+use crate::inner::write_at;
 use octets::LargeFileFlag;
 use outcomes::Refusal;
 use outcomes::Verdict;
@@ -30,24 +36,24 @@ pub fn write_checks(
 ) -> Verdict
     ensures { λ r. ⌜ verdictCase r ≡ firstOf (writeChecks (now (requests .entry)) (saying flag identity start end (pairs (now (requests .entry)))) given) (accepted []) ⌝ }
 {
-    if inner::bad_list(requests) {
+    if bad_list(requests) {
         return Verdict::Refused(Refusal::BadStore);
     }
-    if inner::bad_identity(identity) {
+    if bad_identity(identity) {
         return Verdict::Refused(Refusal::BadIdentity);
     }
     if end < start {
         return Verdict::Refused(Refusal::ScopeReversed);
     }
-    let found = inner::check_requests(requests);
+    let found = check_requests(requests);
     if let Verdict::Refused(r) = found {
         return Verdict::Refused(r);
     }
-    if inner::any_number_above(flag.largest(), start, end, requests) {
+    if any_number_above(flag.largest(), start, end, requests) {
         return Verdict::Refused(Refusal::LargeSegmentForNormalFileSize);
     }
-    let total = inner::pdu_length(identity, flag, requests.len());
-    if 4096 < total {
+    let total = pdu_length(identity, flag, requests.len());
+    if LARGEST_PDU < total {
         return Verdict::Refused(Refusal::PduSize);
     }
     if given != total {
@@ -73,7 +79,7 @@ pub fn write(
         return WriteAnswer::Refused(r);
     }
     let count = requests.len() / 2;
-    let octets = inner::write_at(
+    let octets = write_at(
         buf,
         0,
         identity,

@@ -1,7 +1,7 @@
 pub mod Turn
 pub mod Reading
-pub mod Handed
-pub mod Back
-pub mod Forth
+pub mod ParsedOf
+pub mod FieldsBack
+pub mod OctetsBack
 pub mod Stepping
 pub mod RoundTrip

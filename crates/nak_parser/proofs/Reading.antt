@@ -26,8 +26,8 @@ use Rattle.nak.specs.Request.{requestsChecks, requestsOutcome}
 use Rattle.nak.specs.Writer.{largestPdu}
 use Rattle.nak.proofs.Requests.{requests-fine, fine-requests}
 use Rattle.nak.proofs.Checks.{none-append, none-both}
-use Rattle.nak_parser.specs.Parser.{octetAt, fieldAt, flagIn, fieldLengthIn, entityLengthIn, numberLengthIn, headerLengthIn, lengthField}
-use Rattle.nak_parser.specs.Parser.{scopeAt, behindScope, requestsAt, requestsIn, identityIn, scopeIn, requestsOf, isWrongLength, wrongLength, isWrongData, wrongData, shapeChecks, readChecks, readOutcome}
+use Rattle.nak_parser.specs.Parser.{octetAt, fieldAt, packetFlag, fieldLengthIn, entityLengthIn, numberLengthIn, headerLengthIn, lengthField}
+use Rattle.nak_parser.specs.Parser.{scopeAt, behindScope, requestsAt, requestsIn, packetIdentity, scopeIn, packetRequests, isWrongLength, wrongLength, isWrongData, wrongData, shapeChecks, readChecks, readOutcome}
 
 -- an identity of these lengths and numbers
 abbrev pub identityOf : ℕ → ℕ → ℕ → ℕ → ℕ → Identity
@@ -43,8 +43,8 @@ module _ (p : List ℕ) where
   unfolding requestsAt scopeAt
   is-place h f = rw (h, f)
 
-  pub is-requests : {at f : ℕ} → at ≡ requestsAt p → f ≡ fieldLengthIn p → requestsIn f ((length p - at) / (2 * f)) (drop at p) ≡ requestsOf p
-  unfolding requestsOf
+  pub is-requests : {at f : ℕ} → at ≡ requestsAt p → f ≡ fieldLengthIn p → requestsIn f ((length p - at) / (2 * f)) (drop at p) ≡ packetRequests p
+  unfolding packetRequests
   is-requests a f = rw (a, f)
 
   pub is-identity :
@@ -54,8 +54,8 @@ module _ (p : List ℕ) where
       → source ≡ fieldAt p 4 i
       → number ≡ fieldAt p (4 + i) q
       → destination ≡ fieldAt p (4 + i + q) i
-      → identityOf i q source number destination ≡ identityIn p
-  unfolding identityIn
+      → identityOf i q source number destination ≡ packetIdentity p
+  unfolding packetIdentity
   is-identity i q s n d = rw (s, n, d, i, q)
 
   pub is-length : {h len : ℕ} → h ≡ headerLengthIn p → len ≡ lengthField p → isWrongLength (length p) h len ≡ wrongLength p
@@ -69,7 +69,7 @@ module _ (p : List ℕ) where
   -- bounds
   pub field-low : 4 ≤ fieldLengthIn p
   unfolding fieldLengthIn
-  field-low = go (flagIn p)
+  field-low = go (packetFlag p)
     where
       go : (g : LargeFileFlag) → 4 ≤ fieldLength g
       go Normal = omega arith
@@ -77,7 +77,7 @@ module _ (p : List ℕ) where
 
   pub field-high : fieldLengthIn p ≤ 8
   unfolding fieldLengthIn
-  field-high = go (flagIn p)
+  field-high = go (packetFlag p)
     where
       go : (g : LargeFileFlag) → fieldLength g ≤ 8
       go Normal = omega arith
@@ -159,7 +159,7 @@ abbrev pub sizeCheck : List ℕ → List Check
 sizeCheck p = (ltb largestPdu (length p), refusal.PduSize) ∷ []
 
 abbrev pub scopeChecks : List ℕ → List Check
-scopeChecks p = (ltb (scopeIn p .end) (scopeIn p .start), refusal.ScopeReversed) ∷ requestsChecks (requestsOf p) ++ sizeCheck p
+scopeChecks p = (ltb (scopeIn p .end) (scopeIn p .start), refusal.ScopeReversed) ∷ requestsChecks (packetRequests p) ++ sizeCheck p
 
 -- the shape is asked, and then these
 pub in-order : (p : List ℕ) → readOutcome p ≡ firstOf (shapeChecks p) (firstOf (scopeChecks p) (accepted []))
@@ -171,35 +171,35 @@ pub from-scope : (p : List ℕ) → Shape p → readOutcome p ≡ firstOf (scope
 from-scope p s = in-order p ∙ first-none (shapeChecks p) (firstOf (scopeChecks p) (accepted [])) (s .none)
 
 -- where the scope is right too, the requests
-pub from-requests : (p : List ℕ) → Shape p → scopeIn p .start ≤ scopeIn p .end → readOutcome p ≡ firstOf (requestsChecks (requestsOf p)) (firstOf (sizeCheck p) (accepted []))
-from-requests p s b = rw (from-scope p s, le-ltb (scopeIn p .end) (scopeIn p .start) b) (first-append (requestsChecks (requestsOf p)) (sizeCheck p) (accepted []))
+pub from-requests : (p : List ℕ) → Shape p → scopeIn p .start ≤ scopeIn p .end → readOutcome p ≡ firstOf (requestsChecks (packetRequests p)) (firstOf (sizeCheck p) (accepted []))
+from-requests p s b = rw (from-scope p s, le-ltb (scopeIn p .end) (scopeIn p .start) b) (first-append (requestsChecks (packetRequests p)) (sizeCheck p) (accepted []))
 
 -- and where they are, the size
-pub from-size : (p : List ℕ) → Shape p → scopeIn p .start ≤ scopeIn p .end → NoneOf (requestsChecks (requestsOf p)) → readOutcome p ≡ firstOf (sizeCheck p) (accepted [])
-from-size p s b n = from-requests p s b ∙ first-none (requestsChecks (requestsOf p)) (firstOf (sizeCheck p) (accepted [])) n
+pub from-size : (p : List ℕ) → Shape p → scopeIn p .start ≤ scopeIn p .end → NoneOf (requestsChecks (packetRequests p)) → readOutcome p ≡ firstOf (sizeCheck p) (accepted [])
+from-size p s b n = from-requests p s b ∙ first-none (requestsChecks (packetRequests p)) (firstOf (sizeCheck p) (accepted [])) n
 
 -- a packet that is accepted
 pub record Read (p : List ℕ) : Type 0 where
   pub shape : Shape p
   pub scope : scopeIn p .start ≤ scopeIn p .end
-  pub requests : requestsOutcome (requestsOf p) ≡ accepted []
+  pub requests : requestsOutcome (packetRequests p) ≡ accepted []
   pub size : length p ≤ largestPdu
   pub outcome : readOutcome p ≡ accepted []
 
-pub read-fine : (p : List ℕ) → Shape p → scopeIn p .start ≤ scopeIn p .end → requestsOutcome (requestsOf p) ≡ accepted [] → length p ≤ largestPdu → readOutcome p ≡ accepted []
-read-fine p s b c d = rw (from-size p s b (fine-requests (requestsOf p) c), le-ltb largestPdu (length p) d)
+pub read-fine : (p : List ℕ) → Shape p → scopeIn p .start ≤ scopeIn p .end → requestsOutcome (packetRequests p) ≡ accepted [] → length p ≤ largestPdu → readOutcome p ≡ accepted []
+read-fine p s b c d = rw (from-size p s b (fine-requests (packetRequests p) c), le-ltb largestPdu (length p) d)
 
 pub read-of : (p : List ℕ) → readOutcome p .number ≡ 0 → Read p
 unfolding readOutcome
 read-of p z =
     let n = first-accepted (readChecks p) (accepted []) (eq-eqb _ 0 z) .0 in
     let m = none-append (shapeChecks p) (scopeChecks p) n in
-    let w = none-append (requestsChecks (requestsOf p)) (sizeCheck p) (m .1 .1) in
+    let w = none-append (requestsChecks (packetRequests p)) (sizeCheck p) (m .1 .1) in
     let s = shape-of p (m .0) in
     record {
       shape = s;
       scope = ltb-false (scopeIn p .end) (scopeIn p .start) (m .1 .0);
-      requests = requests-fine (requestsOf p) (w .0);
+      requests = requests-fine (packetRequests p) (w .0);
       size = ltb-false largestPdu (length p) (w .1 .0);
       outcome = first-none (readChecks p) (accepted []) n;
     }

@@ -22,11 +22,11 @@ use Rattle.nak.specs.Inner.{GoodLengths}
 use Rattle.nak.specs.Writer.{isBadList, numbersOf, nakOutcome, writeOutcome, written}
 use Rattle.nak.proofs.Checks.{GoodNumbers, not-bad-identity, NakFine, nak-of, fine-nak, fine-write, write-accepted}
 use Rattle.nak_parser.specs.declared.Parsed.{Parsed}
-use Rattle.nak_parser.specs.Parser.{requestsPart, acceptedParsed, Says, flagIn, fieldLengthIn, entityLengthIn, numberLengthIn, headerLengthIn, scopeAt, requestsAt, requestsIn, identityIn, scopeIn, requestsOf, nakIn, readOutcome}
+use Rattle.nak_parser.specs.Parser.{requestsPart, acceptedParsed, Says, packetFlag, fieldLengthIn, entityLengthIn, numberLengthIn, headerLengthIn, scopeAt, requestsAt, requestsIn, packetIdentity, scopeIn, packetRequests, nakIn, readOutcome}
 use Rattle.nak_parser.proofs.Reading.{Read, read-of, header-is, entity-low, entity-high, number-low, number-high}
-use Rattle.nak_parser.proofs.Handed.{parsed-accepted}
-use Rattle.nak_parser.proofs.Back.{nak-back, read-back, rest}
-use Rattle.nak_parser.proofs.Forth.{part-low, f-is, requests-room, length-requests-in, pdu-forth}
+use Rattle.nak_parser.proofs.ParsedOf.{parsed-accepted}
+use Rattle.nak_parser.proofs.FieldsBack.{nak-back, read-back, rest}
+use Rattle.nak_parser.proofs.OctetsBack.{part-low, f-is, requests-room, length-requests-in, pdu-forth}
 
 -- Reading what was written gives back every field, the requests in order and the flag included, for everything the writer accepts.
 pub read-written :
@@ -86,12 +86,12 @@ none-above g (suc k) os a h =
     rw (above-one g _ refl (part-low os 0 f a (omega arith)), above-one g _ refl (part-low os f f a (omega arith))) (none-above g k (drop (2 * f) os) (octets-drop (2 * f) os a) (omega arith))
 
 module _ (p : List ℕ) (a : AllOctets p) (r : Read p) where
-  good-lengths-in : GoodLengths (identityIn p)
-  unfolding identityIn
+  good-lengths-in : GoodLengths (packetIdentity p)
+  unfolding packetIdentity
   good-lengths-in = record { entity-low = entity-low p; entity-high = entity-high p; number-low = number-low p; number-high = number-high p }
 
-  good-numbers-in : GoodNumbers (identityIn p)
-  unfolding identityIn
+  good-numbers-in : GoodNumbers (packetIdentity p)
+  unfolding packetIdentity
   good-numbers-in =
       let t = r .shape in
       let h = header-is p in
@@ -101,11 +101,11 @@ module _ (p : List ℕ) (a : AllOctets p) (r : Read p) where
         destination = part-low p (4 + entityLengthIn p + numberLengthIn p) (entityLengthIn p) a (omega arith);
       }
 
-  numbers-in : anyAbove (largestOf (flagIn p)) (numbersOf (nakIn p)) ≡ false
-  unfolding scopeIn scopeAt requestsOf
+  numbers-in : anyAbove (largestOf (packetFlag p)) (numbersOf (nakIn p)) ≡ false
+  unfolding scopeIn scopeAt packetRequests
   numbers-in =
       let t = r .shape in
-      let g = flagIn p in
+      let g = packetFlag p in
       let x = above-one g (scopeIn p .start) (f-is p) (part-low p (headerLengthIn p + 1) (fieldLengthIn p) a (omega arith)) in
       let y = above-one g (scopeIn p .end) (f-is p) (part-low p (headerLengthIn p + 1 + fieldLengthIn p) (fieldLengthIn p) a (omega arith)) in
       let k = (length p - requestsAt p) / (2 * fieldLength g) in
@@ -116,7 +116,7 @@ module _ (p : List ℕ) (a : AllOctets p) (r : Read p) where
   pub fine-in : NakFine (nakIn p)
   fine-in =
       record {
-        identity = not-bad-identity (identityIn p) good-lengths-in good-numbers-in;
+        identity = not-bad-identity (packetIdentity p) good-lengths-in good-numbers-in;
         scope = r .scope;
         requests = r .requests;
         numbers = numbers-in;
@@ -128,8 +128,8 @@ pub accepted-pdu : (p : List ℕ) → AllOctets p → readOutcome p .number ≡ 
 accepted-pdu p a z = let r = read-of p z in (pdu-forth p a r, fine-nak (nakIn p) (fine-in p a r))
 
 -- the flat list of the requests of an accepted packet is even, and short enough for the writer
-good-requests : (p : List ℕ) → Read p → isBadList (flat (requestsOf p)) ≡ false
-unfolding isBadList requestsOf
+good-requests : (p : List ℕ) → Read p → isBadList (flat (packetRequests p)) ≡ false
+unfolding isBadList packetRequests
 good-requests p r =
     let k = (length p - requestsAt p) / (2 * fieldLengthIn p) in
     let l : length (flat (requestsIn (fieldLengthIn p) k (drop (requestsAt p) p))) ≡ 2 * k = length-flat (requestsIn (fieldLengthIn p) k (drop (requestsAt p) p)) ∙ rw (length-requests-in (fieldLengthIn p) k (drop (requestsAt p) p)) in
@@ -144,9 +144,9 @@ pub written-read :
     → AllOctets p
     → readOutcome p .number ≡ 0
     → length buf ≡ length p
-    → (writeOutcome (flat (requestsOf p)) (nakIn p) (length buf) ≡ accepted (length p ∷ [])) × (written (flat (requestsOf p)) (nakIn p) buf ≡ p) × (pairs (flat (requestsOf p)) ≡ requestsOf p)
+    → (writeOutcome (flat (packetRequests p)) (nakIn p) (length buf) ≡ accepted (length p ∷ [])) × (written (flat (packetRequests p)) (nakIn p) buf ≡ p) × (pairs (flat (packetRequests p)) ≡ packetRequests p)
 written-read p buf a z e =
     let r = read-of p z in
     let f = pdu-forth p a r in
-    let w = rw f at (fine-write (flat (requestsOf p)) (nakIn p) (length buf) (record { list = good-requests p r; says = fine-in p a r; size = rw f e })) in
-    (w, rw (w, f), pairs-flat (requestsOf p))
+    let w = rw f at (fine-write (flat (packetRequests p)) (nakIn p) (length buf) (record { list = good-requests p r; says = fine-in p a r; size = rw f e })) in
+    (w, rw (w, f), pairs-flat (packetRequests p))

@@ -2,22 +2,31 @@
 use mathlib.Core.Path.{_≡_, refl, sym, ap, _∙_}
 use mathlib.Core.Bool.{Bool, true, false}
 use mathlib.Core.List.{List, [], _∷_, _++_}
-use Prim.Native.Nat.{ℕ, zero, suc, _+_, _*_, _-_, _/_, _<_}
+use Prim.Native.Nat.{ℕ, zero, suc, _+_, _*_, _-_, _/_, _≤_, _<_}
 use native.Mathlib.Nat.{suc-mul, suc-add, zero-add}
 use native.Mathlib.Omega.{arith}
 use lib.Dec.{eqb}
 use lib.ListN.{length, getD, drop, replicate}
 use lib.Seq.{drop-drop}
-use borrow.Author.Tests.{eqb-true}
+use borrow.Author.Tests.{eqb-true, lt-ltb, le-ltb}
 use Rattle.outcomes.specs.Outcome.{Outcome, accepted}
 use Rattle.nak_parser.specs.declared.Found.{Found}
 use Rattle.nak_parser.specs.declared.Step.{Step}
 use Rattle.nak_parser.specs.declared.Step.the-variants.{Request, End}
-use Rattle.nak_parser.specs.Parser.{fieldLengthIn, requestsAt, requestsIn, requestsOf, readOutcome, parsedOf}
-use Rattle.nak_parser.specs.Step.{stepOutcome, placeAfter, stepCase, steps, eachRequest, requestsGiven}
+use Rattle.nak_parser.specs.Parser.{fieldLengthIn, requestsAt, requestsIn, packetRequests, readOutcome, parsedOf}
+use Rattle.nak_parser.specs.Step.{atEnd, stepOutcome, placeAfter, stepCase, steps, eachRequest, requestsGiven}
 use Rattle.nak_parser.proofs.Reading.{read-of, field-low}
-use Rattle.nak_parser.proofs.Handed.{part-of, at-end, not-at-end}
-use Rattle.nak_parser.proofs.Forth.{requests-room, length-requests-in}
+use Rattle.nak_parser.proofs.ParsedOf.{part-of}
+use Rattle.nak_parser.proofs.OctetsBack.{requests-room, length-requests-in}
+
+-- a reader is at its end, or has a request left
+pub at-end : (p : List ℕ) (at : ℕ) → length p - at < 2 * fieldLengthIn p → atEnd p at ≡ true
+unfolding atEnd
+at-end p at h = lt-ltb (length p - at) (2 * fieldLengthIn p) h
+
+pub not-at-end : (p : List ℕ) (at : ℕ) → 2 * fieldLengthIn p ≤ length p - at → atEnd p at ≡ false
+unfolding atEnd
+not-at-end p at h = le-ltb (length p - at) (2 * fieldLengthIn p) h
 
 -- at its end a reader stays there
 pub ended : (p : List ℕ) (at k : ℕ) → length p - at < 2 * fieldLengthIn p → steps p at k ≡ replicate k (accepted [])
@@ -37,7 +46,7 @@ going p (suc j) at k h =
     rw (suc-add, n, drop-drop f at p, drop-drop (2 * f) at p, going p j (at + 2 * f) k (omega arith))
 
 stepping-if : (p : List ℕ) (k : ℕ) (t : Bool) → eqb (readOutcome p .number) 0 ≡ t → steps p (parsedOf p .next) (length (requestsGiven p) + k) ≡ eachRequest (requestsGiven p) ++ replicate k (accepted [])
-unfolding requestsOf
+unfolding packetRequests
 stepping-if p k true e =
     let r = read-of p (eqb-true (readOutcome p .number) 0 e) in
     let q = part-of p in

@@ -31,12 +31,12 @@ abbrev pub fieldAt : List ℕ → ℕ → ℕ → ℕ
 fieldAt p at f = number (take f (drop at p))
 
 -- The large file flag of a packet.
-unfoldable pub flagIn : List ℕ → LargeFileFlag
-flagIn p = flagOf (octetAt p 0)
+unfoldable pub packetFlag : List ℕ → LargeFileFlag
+packetFlag p = flagOf (octetAt p 0)
 
 -- F, by the flag.
 unfoldable pub fieldLengthIn : List ℕ → ℕ
-fieldLengthIn p = fieldLength (flagIn p)
+fieldLengthIn p = fieldLength (packetFlag p)
 
 -- I and Q, in octet 3.
 unfoldable pub entityLengthIn : List ℕ → ℕ
@@ -57,7 +57,7 @@ lengthField p = fieldAt p 1 2
 abbrev pub headerIn : List ℕ → Header
 headerIn p =
     record {
-      flag = flagIn p;
+      flag = packetFlag p;
       «entity_length» = entityLengthIn p;
       «number_length» = numberLengthIn p;
       length = headerLengthIn p;
@@ -82,8 +82,8 @@ requestsIn f zero os = []
 requestsIn f (suc n) os = range (fieldAt os 0 f) (fieldAt os f f) ∷ requestsIn f n (drop (2 * f) os)
 
 -- Source entity, sequence number, destination entity, of I, Q and I octets.
-unfoldable pub identityIn : List ℕ → Identity
-identityIn p =
+unfoldable pub packetIdentity : List ℕ → Identity
+packetIdentity p =
     record {
       «entity_length» = entityLengthIn p;
       «number_length» = numberLengthIn p;
@@ -97,12 +97,12 @@ unfoldable pub scopeIn : List ℕ → Range
 scopeIn p = range (fieldAt p (scopeAt p) (fieldLengthIn p)) (fieldAt p (scopeAt p + fieldLengthIn p) (fieldLengthIn p))
 
 -- As many requests as there is room for behind the scope.
-unfoldable pub requestsOf : List ℕ → List Range
-requestsOf p = requestsIn (fieldLengthIn p) ((length p - requestsAt p) / (2 * fieldLengthIn p)) (drop (requestsAt p) p)
+unfoldable pub packetRequests : List ℕ → List Range
+packetRequests p = requestsIn (fieldLengthIn p) ((length p - requestsAt p) / (2 * fieldLengthIn p)) (drop (requestsAt p) p)
 
 -- What a packet says.
 abbrev pub nakIn : List ℕ → Nak
-nakIn p = record { flag = flagIn p; identity = identityIn p; scope = scopeIn p; requests = requestsOf p }
+nakIn p = record { flag = packetFlag p; identity = packetIdentity p; scope = scopeIn p; requests = packetRequests p }
 
 -- 16: packet not H plus the length field, or length field 0.
 abbrev pub isWrongLength : ℕ → ℕ → ℕ → Bool
@@ -135,7 +135,7 @@ shapeChecks p =
 abbrev pub readChecks : List ℕ → List Check
 readChecks p =
     shapeChecks p
-    ++ ((ltb (scopeIn p .end) (scopeIn p .start), refusal.ScopeReversed) ∷ requestsChecks (requestsOf p) ++ ((ltb largestPdu (length p), refusal.PduSize) ∷ []))
+    ++ ((ltb (scopeIn p .end) (scopeIn p .start), refusal.ScopeReversed) ∷ requestsChecks (packetRequests p) ++ ((ltb largestPdu (length p), refusal.PduSize) ∷ []))
 
 unfoldable pub readOutcome : List ℕ → Outcome
 readOutcome p = firstOf (readChecks p) (accepted [])
@@ -164,8 +164,8 @@ acceptedParsed p =
       refusal = 0;
       start = 0;
       end = 0;
-      identity = identityIn p;
-      flag = flagIn p;
+      identity = packetIdentity p;
+      flag = packetFlag p;
       «scope_start» = scopeIn p .start;
       «scope_end» = scopeIn p .end;
       from = requestsAt p;
@@ -188,7 +188,7 @@ pub record Says (p : List ℕ) (n : Nak) : Type 0 where
   pub flag : parsedOf p .flag ≡ n .flag
   pub scope-start : parsedOf p .«scope_start» ≡ n .scope .start
   pub scope-end : parsedOf p .«scope_end» ≡ n .scope .end
-  pub requests : requestsOf p ≡ n .requests
+  pub requests : packetRequests p ≡ n .requests
 
 -- The requests as the caller's own octets: the part of an accepted packet from behind the scope to its end, and of a refused one
 -- an empty part at octet 0.

@@ -8,7 +8,7 @@ use Rattle.ranges.specs.Range.{Range}
 use Rattle.outcomes.specs.Outcome.{Outcome, accepted, lent}
 use Rattle.nak_parser.specs.declared.Step.{Step}
 use Rattle.nak_parser.specs.declared.Step.the-variants.{Request, End}
-use Rattle.nak_parser.specs.Parser.{fieldAt, fieldLengthIn, requestsOf, readOutcome}
+use Rattle.nak_parser.specs.Parser.{fieldAt, fieldLengthIn, packetRequests, readOutcome}
 
 -- Any reader with less than one request left is at its end: fewer than 2F octets from its place to the packet's end. F is that of
 -- the packet's large file flag; behind the packet's end there are no octets.
@@ -40,4 +40,4 @@ eachRequest (r ∷ rs) = accepted (r .start ∷ r .end ∷ []) ∷ eachRequest r
 
 -- The requests that a reader gives from where reading left it: those of an accepted packet, and none of a refused one.
 abbrev pub requestsGiven : List ℕ → List Range
-requestsGiven p = lent (readOutcome p) (requestsOf p) []
+requestsGiven p = lent (readOutcome p) (packetRequests p) []

@@ -1,6 +1,6 @@
 // Inner: not part of the public interface. Some of these have a `requires`, which their callers show.
-use nak::inner::header_length;
-use nak::inner::is_empty;
+use nak::inner::lengths::header_length;
+use nak::inner::requests::is_empty;
 use octets::LargeFileFlag;
 use octets::inner::get;
 use outcomes::Refusal;
@@ -15,9 +15,11 @@ ghost use Rattle.outcomes.specs.Refusal.{refusing};
 ghost use Rattle.outcomes.specs.Checks.{firstOf, verdictCase};
 ghost use Rattle.nak.specs.Header.{wrongFixed, flagOf};
 ghost use Rattle.nak.specs.Request.{requestsChecks};
-ghost use Rattle.nak_parser.specs.Parser.{headerIn, headerLengthIn, requestsIn, identityIn, isWrongLength, isWrongData, shapeChecks, refusedParsed};
+ghost use Rattle.nak_parser.specs.Parser.{headerIn, headerLengthIn, requestsIn, packetIdentity, isWrongLength, isWrongData, shapeChecks, refusedParsed};
 use crate::Parsed;
+use nak::FIXED_BITS;
 use nak::Identity;
+use nak::NAK_CODE;
 
 pub fn wide(octet: u8) -> usize
     ensures { λ r. ⌜ r ≡ octet ⌝ }
@@ -29,7 +31,7 @@ pub fn wide(octet: u8) -> usize
 pub fn wrong_fixed(o0: usize, o3: usize) -> bool
     ensures { λ r. ⌜ r ≡ wrongFixed o0 o3 ⌝ }
 {
-    if o0 / 2 * 2 != 40 {
+    if o0 / 2 * 2 != FIXED_BITS as usize {
         return true;
     }
     o3 / 128 * 128 + o3 / 8 % 2 * 8 != 0
@@ -106,7 +108,7 @@ pub fn shape(packet: &[u8], header: Header) -> Verdict
     if wrong_length(packet.len(), h, len) {
         return Verdict::Refused(Refusal::LengthMismatch);
     }
-    if packet[h] != 8 {
+    if packet[h] != NAK_CODE {
         return Verdict::Refused(Refusal::NotNak);
     }
     let flag = header.flag;
@@ -119,7 +121,7 @@ pub fn shape(packet: &[u8], header: Header) -> Verdict
 // Source entity, sequence number, destination entity.
 pub fn identity_in(packet: &[u8], header: Header) -> Identity
     requires { ⌜ (headerLengthIn (now packet) ≤ length (now packet)) × (header ≡ headerIn (now packet)) ⌝ }
-    ensures { λ r. ⌜ r ≡ identityIn (now (packet .entry)) ⌝ }
+    ensures { λ r. ⌜ r ≡ packetIdentity (now (packet .entry)) ⌝ }
 {
     let i = header.entity_length;
     let q = header.number_length;

@@ -1,5 +1,6 @@
 // Reading one NAK PDU into plain values.
 use nak::Identity;
+use nak::LARGEST_PDU;
 use octets::LargeFileFlag;
 use octets::inner::get;
 use outcomes::Refusal;
@@ -52,7 +53,7 @@ pub fn parse(packet: &[u8]) -> Parsed
     if let Verdict::Refused(r) = found {
         return inner::refused(r, total);
     }
-    if 4096 < total {
+    if LARGEST_PDU < total {
         return inner::refused(Refusal::PduSize, total);
     }
     let identity = inner::identity_in(packet, header);

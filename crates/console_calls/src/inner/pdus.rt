@@ -10,8 +10,7 @@ use console_text::inner::part;
 use console_text::inner::print;
 use nak::Identity;
 use nak_parser::Step;
-use nak_parser::inner::header_length_in;
-use nak_parser::inner::length_field;
+use nak_parser::inner::header_in;
 use octets::LargeFileFlag;
 
 // The first five words of `write` and `nak`: the lengths of the identifiers, source, number, destination.
@@ -138,8 +137,9 @@ fn pdu_length(octets: &[u8]) -> usize
     if all < 4 {
         return all;
     }
-    let header = part::at_most(header_length_in(octets), all);
-    header + part::at_most(length_field(octets), all - header)
+    let header = header_in(octets);
+    let start = part::at_most(header.length, all);
+    start + part::at_most(header.data_length, all - start)
 }
 
 // A line for each PDU.

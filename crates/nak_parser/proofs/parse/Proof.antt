@@ -13,12 +13,13 @@ use Rattle.outcomes.specs.declared.Refusal.{Refusal}
 use Rattle.outcomes.specs.declared.Refusal.the-variants as refusal
 use Rattle.outcomes.proofs.FirstOf.{first-append, first-refused, none-of}
 use Rattle.octets.specs.Flag.{fieldLength}
+use Rattle.nak.specs.Writer.{largestPdu}
 use Rattle.nak.specs.Request.{requestsChecks}
 use Rattle.nak_parser.specs.declared.inner.Header.{Header}
-use Rattle.nak_parser.specs.Parser.{headerIn, fieldLengthIn, headerLengthIn, behindScope, requestsAt, scopeIn, requestsOf, shapeChecks, readChecks, readOutcome, acceptedParsed}
+use Rattle.nak_parser.specs.Parser.{headerIn, fieldLengthIn, headerLengthIn, behindScope, requestsAt, scopeIn, packetRequests, shapeChecks, readChecks, readOutcome, acceptedParsed}
 use Rattle.nak_parser.proofs.Reading.{is-scope, is-place, is-requests, field-low, field-high, header-high}
 use Rattle.nak_parser.proofs.Reading.{Shape, shape-of, sizeCheck, scopeChecks, in-order, from-scope, from-requests, from-size}
-use Rattle.nak_parser.proofs.Handed.{parsed-accepted, parsed-by, short, is-parsed}
+use Rattle.nak_parser.proofs.ParsedOf.{parsed-accepted, parsed-by, short, is-parsed}
 use borrow.Author.Needs.{needs}
 use Rattle.nak_parser.proofs.parse.Statement.{statement}
 use Rattle.nak_parser.proofs.parse.Tie as tie
@@ -98,7 +99,7 @@ fromC c = c .before
 abbrev startC : tie.After-check-packet → tie.Start
 startC c = startF (fromG (fromC c .before))
 
-asked : (c : tie.After-check-packet) → verdictCase (c .check-packet .result) ≡ firstOf (requestsChecks (requestsOf (p (startC c)))) (accepted [])
+asked : (c : tie.After-check-packet) → verdictCase (c .check-packet .result) ≡ firstOf (requestsChecks (packetRequests (p (startC c)))) (accepted [])
 asked c =
     let g = fromG (fromC c .before) in
     c .check-packet .ensures ∙ ap (λ (rs : List Range). firstOf (requestsChecks rs) (accepted [])) (is-requests (p (startC c)) (place g) (f-is g))
@@ -110,8 +111,8 @@ shapeC c = shape-right (fromG (fromC c .before) .before)
 abbrev fromR : tie.After-enum-told2 → tie.After-check-packet
 fromR c = c .before .before
 
-requests : (c : tie.After-enum-told2) → NoneOf (requestsChecks (requestsOf (p (startC (fromR c)))))
-requests c = none-of (requestsChecks (requestsOf (p (startC (fromR c))))) (ap verdictCase (sym (c .enum-told2 .given .1)) ∙ asked (fromR c))
+requests : (c : tie.After-enum-told2) → NoneOf (requestsChecks (packetRequests (p (startC (fromR c)))))
+requests c = none-of (requestsChecks (packetRequests (p (startC (fromR c))))) (ap verdictCase (sym (c .enum-told2 .given .1)) ∙ asked (fromR c))
 
 then-size : (c : tie.After-enum-told2) → let q = p (startC (fromR c)) in readOutcome q ≡ firstOf (sizeCheck q) (accepted [])
 then-size c = from-size (p (startC (fromR c))) (shapeC (fromR c)) (ordered (fromC (fromR c))) (requests c)
@@ -205,7 +206,7 @@ returns-4 c =
     let b = c .before .before .before .before in
     let q = p (startC b) in
     let r : Refusal = c .before .before .found .given .0 .0 in
-    let e = first-refused (requestsChecks (requestsOf q)) r (firstOf (sizeCheck q) (accepted [])) (ap verdictCase (sym (c .before .before .found .given .1)) ∙ asked b) in
+    let e = first-refused (requestsChecks (packetRequests q)) r (firstOf (sizeCheck q) (accepted [])) (ap verdictCase (sym (c .before .before .found .given .1)) ∙ asked b) in
     c .refused4 .ensures ∙ parsed-by q r (e ∙ sym (from-requests q (shapeC b) (ordered (fromC b))))
 
 enum-told-2 : tie.Need-enum-told-2
@@ -218,7 +219,7 @@ returns-5 : tie.Need-returns-5
 returns-5 c =
     let d = c .before .before in
     let q = p (startC (fromR d)) in
-    c .refused5 .ensures ∙ parsed-by q refusal.PduSize (rw (then-size d, lt-ltb 4096 (length q) (c .before .if3 .taken)))
+    c .refused5 .ensures ∙ parsed-by q refusal.PduSize (rw (then-size d, lt-ltb largestPdu (length q) (c .before .if3 .taken)))
 
 identity-in-requires : tie.Need-identity-in-requires
 identity-in-requires c κs =
@@ -232,7 +233,7 @@ returns-6 c =
     let b = fromR d in
     let q = p (startC b) in
     let g = fromG (fromC b .before) in
-    let e : readOutcome q ≡ accepted [] = rw (then-size d, le-ltb 4096 (length q) (omega (arith, c .before .if3 .left))) in
+    let e : readOutcome q ≡ accepted [] = rw (then-size d, le-ltb largestPdu (length q) (omega (arith, c .before .if3 .left))) in
     let flag = ap (λ (h : Header). h .flag) (g .before .before .before .before .header-in .ensures) in
     is-parsed q (c .identity-in .ensures) flag (scope (fromC b .before)) (place g) ∙ sym (parsed-accepted q e)
 

@@ -1,5 +1,5 @@
 -- `nak_parser::requests` meets its contract: the places that `parse` gives are those of the part.
-use Rattle.nak_parser.proofs.Handed.{part-of}
+use Rattle.nak_parser.proofs.ParsedOf.{part-of}
 use Prim.Native.Nat.{ℕ, _+_}
 use mathlib.Core.Path.{ap, _∙_}
 use borrow.Author.Needs.{needs}

@@ -40,7 +40,7 @@ use denote.Exit.{yes}
 use denote.Triple.Clauses.{ensured, lasts}
 use Rattle.nak_parser.specs.Parser.{parsedOf, requestsPart, requestsPtr}
 use Rattle.nak_reader.specs.declared.NakReader.{NakReader}
-use Rattle.nak_parser.proofs.Handed.{part-of}
+use Rattle.nak_parser.proofs.ParsedOf.{part-of}
 use Rattle.nak_reader.proofs.NakReader as T
 use Rattle.nak_reader.proofs.NakReader.Laws as T′
 use Rattle.nak_reader.specs.declared.ReadNak.{ReadNak}

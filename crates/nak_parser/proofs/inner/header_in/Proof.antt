@@ -2,7 +2,7 @@
 use mathlib.Core.Path.{_≡_, ap, _∙_}
 use Rattle.nak.specs.Header.{flagOf, entityLengthOf, numberLengthOf}
 use Rattle.nak.specs.Pdu.{headerLength}
-use Rattle.nak_parser.specs.Parser.{flagIn, entityLengthIn, numberLengthIn, headerLengthIn, lengthField}
+use Rattle.nak_parser.specs.Parser.{packetFlag, entityLengthIn, numberLengthIn, headerLengthIn, lengthField}
 use borrow.Author.Needs.{needs}
 use Rattle.nak_parser.proofs.inner.header_in.Statement.{statement}
 use Rattle.nak_parser.proofs.inner.header_in.Tie as tie
@@ -35,7 +35,7 @@ get-requires : tie.Need-get-requires
 get-requires c κs = search needs
 
 returns : tie.Need-returns
-unfolding flagIn entityLengthIn numberLengthIn headerLengthIn lengthField
+unfolding packetFlag entityLengthIn numberLengthIn headerLengthIn lengthField
 returns c =
     let octet3 = c .before .before .before .before .before .wide .ensures in
     let flag = c .before .before .flag-of .ensures ∙ ap flagOf (c .before .before .before .wide2 .ensures) in

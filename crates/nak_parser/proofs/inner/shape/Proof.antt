@@ -11,6 +11,7 @@ use Rattle.octets.proofs.Fields.{octets-all}
 use Rattle.octets.specs.Flag.{fieldLength}
 use Rattle.octets.specs.declared.LargeFileFlag.{LargeFileFlag}
 use Rattle.nak.specs.Header.{wrongFixed}
+use Rattle.nak.specs.Pdu.{nakCode}
 use Rattle.nak_parser.specs.Parser.{octetAt, headerIn, fieldLengthIn, headerLengthIn, lengthField, wrongLength, wrongData}
 use Rattle.nak_parser.specs.declared.inner.Header.{Header}
 use Rattle.nak_parser.proofs.Reading.{field-low, field-high, header-high, length-low, right-length, is-length, is-data}
@@ -61,7 +62,7 @@ lengths-right c = sym (lengths (c .before)) ∙ c .if2 .left
 abbrev startC : tie.Else3 → tie.Start
 startC c = startL (c .before .before .before)
 
-code : (c : tie.Else3) → octetAt (p (startC c)) (headerLengthIn (p (startC c))) ≡ 8
+code : (c : tie.Else3) → octetAt (p (startC c)) (headerLengthIn (p (startC c))) ≡ nakCode
 code c = ap (octetAt (p (startC c))) (sym (h-is (startC c))) ∙ c .if3 .left
 
 -- the data field
@@ -113,7 +114,7 @@ returns-3 : tie.Need-returns-3
 returns-3 c =
     let e = c .before .before in
     let s = startL (e .before) in
-    let other : (octetAt (p s) (headerLengthIn (p s)) ≡ 8 → ⊥) = λ z. c .if3 .taken (ap (octetAt (p s)) (h-is s) ∙ z) in
+    let other : (octetAt (p s) (headerLengthIn (p s)) ≡ nakCode → ⊥) = λ z. c .if3 .taken (ap (octetAt (p s)) (h-is s) ∙ z) in
     rw (enough s, fixed-right (e .before .before), lengths-right e, ne-eqb _ _ other)
 
 field-length-requires : tie.Need-field-length-requires

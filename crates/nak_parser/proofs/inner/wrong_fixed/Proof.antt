@@ -8,6 +8,9 @@ use Rattle.nak_parser.proofs.inner.wrong_fixed.Tie as tie
 mul-if1 : tie.Need-mul-if1
 mul-if1 c = search needs
 
+cast-if1 : tie.Need-cast-if1
+cast-if1 c = search needs
+
 returns : tie.Need-returns
 unfolding wrongFixed
 returns c = simp (ne-eqb _ _ (c .if1 .taken))
@@ -27,4 +30,4 @@ returns-2 c = simp (eq-eqb _ _ (c .if1 .left))
 
 pub wrong-fixed-spec : {M : Type 1} → statement M
 wrong-fixed-spec =
-    tie.close (tie.spec mul-if1 returns mul-result mul-result-2 add-result returns-2)
+    tie.close (tie.spec mul-if1 cast-if1 returns mul-result mul-result-2 add-result returns-2)

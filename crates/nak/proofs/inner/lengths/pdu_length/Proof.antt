@@ -1,0 +1,28 @@
+-- `nak::inner::lengths::pdu_length` meets its contract: the sum fits, and is the definition's.
+use native.Mathlib.Omega.{arith}
+use Prim.Native.Nat.{_+_, _*_, _≤_}
+use mathlib.Core.Path.{_≡_, refl}
+use borrow.Author.Needs.{needs}
+use Rattle.octets.specs.Flag.{fieldLength}
+use Rattle.nak.proofs.Parts.{f-high}
+use Rattle.nak.proofs.inner.lengths.pdu_length.Statement.{statement}
+use Rattle.nak.proofs.inner.lengths.pdu_length.Tie as tie
+
+-- the octets of the numbers are few
+high : (s : tie.Start) → fieldLength (s .args .flag) * (2 + s .args .numbers) ≤ 65552
+high s = f-high (s .args .flag) (2 + s .args .numbers) refl (omega (arith, s .pre))
+
+header-length-requires : tie.Need-header-length-requires
+header-length-requires c κs = search needs
+
+data-length-requires : tie.Need-data-length-requires
+data-length-requires c κs = omega (arith, high (c .before))
+
+add-result : tie.Need-add-result
+add-result c = omega (arith, high (c .before .before), c .data-length .ensures, c .before .header-length .ensures)
+
+returns : tie.Need-returns
+returns c = rw (c .before .header-length .ensures, c .data-length .ensures)
+
+pub pdu-length-spec : {M : Type 1} → statement M
+pdu-length-spec = tie.close (tie.spec header-length-requires data-length-requires add-result returns)

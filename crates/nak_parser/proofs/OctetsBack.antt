@@ -1,0 +1,185 @@
+-- Writing what was read: every octet of an accepted packet comes back.
+use mathlib.Core.Path.{_≡_, refl, sym, ap, _∙_}
+use mathlib.Core.Bool.{Bool, true, false, not}
+use mathlib.Core.List.{List, [], _∷_, _++_, append-assoc}
+use Prim.Native.Nat.{ℕ, zero, suc, _+_, _*_, _-_, _/_, _%_, _^_, _≤_, _<_}
+use native.Mathlib.Nat.{mod-eq-of-lt, suc-mul, div-div-eq-div-mul}
+use native.Mathlib.Omega.{arith}
+use lib.Dec.{eqb}
+use lib.ListN.{length, getD, take, drop, length-drop, take-append-drop}
+use lib.Seq.{drop-cons, drop-drop, length-take-le}
+use borrow.Author.Tests.{eqb-true, eqb-false, not-false}
+use Rattle.ranges.proofs.Test.{or-false}
+use Rattle.ranges.proofs.Flat.{length-flat}
+use Rattle.ranges.specs.Store.{flat}
+use Rattle.octets.specs.Octets.{field, fields, AllOctets}
+use Rattle.octets.specs.Flag.{fieldLength}
+use Rattle.octets.specs.declared.LargeFileFlag.{LargeFileFlag}
+use Rattle.octets.specs.declared.LargeFileFlag.the-variants.{Normal, Large}
+use Rattle.octets.proofs.Fields.{put-got, number-below, octets-take, octets-drop}
+use Rattle.nak.specs.Header.{wrongFixed, fixed0, fixedBits0, fixedBits3, octet0, octet3, flagOf, entityLengthOf, numberLengthOf}
+use Rattle.nak.specs.Pdu.{nakCode, headerOctets, identityOctets, dataOctets, dataField, pdu}
+use Rattle.nak.proofs.Parts.{length-data}
+use Rattle.nak_parser.specs.Parser.{octetAt, fieldAt, packetFlag, fieldLengthIn, entityLengthIn, numberLengthIn, headerLengthIn, lengthField, scopeAt, requestsAt, requestsIn, packetIdentity, scopeIn, packetRequests, nakIn}
+use Rattle.nak_parser.proofs.Reading.{Read, header-is}
+
+-- an octet of octets is below 256
+pub octet-low : (p : List ℕ) (k : ℕ) → AllOctets p → getD p k 0 < 256
+octet-low [] k a = omega arith
+octet-low (o ∷ p) zero (h, a) = h
+octet-low (o ∷ p) (suc k) (h, a) = octet-low p k a
+
+-- the field of the number in f octets is these octets
+pub part-forth : (p : List ℕ) (at f : ℕ) → AllOctets p → at + f ≤ length p → field f (fieldAt p at f) ≡ take f (drop at p)
+part-forth p at f a h =
+    let d = length-drop at p in
+    let l : length (take f (drop at p)) ≡ f = length-take-le f (drop at p) (omega arith) in
+    rw l at (put-got (take f (drop at p)) (octets-take f (drop at p) (octets-drop at p a)))
+
+-- and it is a number of f octets
+pub part-low : (p : List ℕ) (at f : ℕ) → AllOctets p → at + f ≤ length p → fieldAt p at f < 256 ^ f
+part-low p at f a h =
+    let d = length-drop at p in
+    let l : length (take f (drop at p)) ≡ f = length-take-le f (drop at p) (omega arith) in
+    rw l at (number-below (take f (drop at p)) (octets-take f (drop at p) (octets-drop at p a)))
+
+-- a part, and what stands behind it
+pub join-forth : (p : List ℕ) (at f m : ℕ) → at + f ≡ m → take f (drop at p) ++ drop m p ≡ drop at p
+join-forth p at f m e = rw (← e, ← drop-drop f at p) (take-append-drop f (drop at p))
+
+-- the two together: a field read, and what stands behind it
+field-forth : (p : List ℕ) (at f m : ℕ) {z : List ℕ} → AllOctets p → at + f ≡ m → m ≤ length p → z ≡ drop m p → field f (fieldAt p at f) ++ z ≡ drop at p
+field-forth p at f m a e h g = rw (part-forth p at f a (omega arith), g) (join-forth p at f m e)
+
+-- an octet read, and what stands behind it
+octet-forth : (p : List ℕ) (at m o : ℕ) {z : List ℕ} → AllOctets p → o ≡ octetAt p at → suc at ≡ m → m ≤ length p → z ≡ drop m p → field 1 o ++ z ≡ drop at p
+octet-forth p at m o a e h k g =
+    let l = octet-low p at a in
+    let q : o % 256 ≡ getD p at 0 = mod-eq-of-lt (omega arith) ∙ e in
+    rw (g, q, ← h) (sym (drop-cons p at 0 (omega arith)))
+
+pub length-requests-in : (f k : ℕ) (os : List ℕ) → length (requestsIn f k os) ≡ k
+length-requests-in f zero os = refl
+length-requests-in f (suc k) os = ap suc (length-requests-in f k (drop (2 * f) os))
+
+none-left : (os : List ℕ) → length os ≡ 0 → [] ≡ os
+none-left [] h = refl
+none-left (o ∷ os) h = absurd (omega arith)
+
+-- the octets of the requests come back
+pub requests-forth : (f k : ℕ) (os : List ℕ) → AllOctets os → length os ≡ k * (2 * f) → fields f (flat (requestsIn f k os)) ≡ os
+requests-forth f zero os a h = none-left os (h ∙ omega arith)
+requests-forth f (suc k) os a h =
+    let l = rw suc-mul at h in
+    let d = length-drop (2 * f) os in
+    let t = requests-forth f k (drop (2 * f) os) (octets-drop (2 * f) os a) (omega arith) in
+    let e = field-forth os f f (2 * f) a (omega arith) (omega arith) t in
+    field-forth os 0 f f a (omega arith) (omega arith) e
+
+flag-forth : (o0 o3 : ℕ) → wrongFixed o0 o3 ≡ false → octet0 (flagOf o0) ≡ o0
+unfolding wrongFixed
+flag-forth o0 o3 e = go (eqb (o0 % 2) 0) refl
+  where
+    bits : o0 / 2 * 2 ≡ 40
+    bits = eqb-true (fixedBits0 o0) fixed0 (not-false _ (or-false (not (eqb (fixedBits0 o0) fixed0)) _ e .0))
+
+    go : (t : Bool) → eqb (o0 % 2) 0 ≡ t → octet0 (flagOf o0) ≡ o0
+    go true z = rw z (let k = eqb-true (o0 % 2) 0 z in omega (arith, bits))
+    go false z = rw z (let k = eqb-false (o0 % 2) 0 z in omega (arith, bits))
+
+lengths-forth : (o0 o3 : ℕ) → o3 < 256 → wrongFixed o0 o3 ≡ false → octet3 (entityLengthOf o3) (numberLengthOf o3) ≡ o3
+unfolding wrongFixed
+lengths-forth o0 o3 h e =
+    let b : o3 / 128 * 128 + o3 / 8 % 2 * 8 ≡ 0 = eqb-true (fixedBits3 o3) 0 (not-false _ (or-false (not (eqb (fixedBits0 o0) fixed0)) _ e .1)) in
+    let d : o3 / 8 / 2 ≡ o3 / 16 = div-div-eq-div-mul o3 8 2 in
+    let q : o3 / 8 % 2 ≡ 0 = omega arith in
+    let m : o3 / 16 % 8 ≡ o3 / 16 = mod-eq-of-lt (omega arith) in
+    omega arith
+
+-- as many requests as the length field says
+count-forth : (g : LargeFileFlag) (total h len : ℕ) → total ≡ h + len → 1 + 2 * fieldLength g ≤ len → (len - (1 + 2 * fieldLength g)) % (2 * fieldLength g) ≡ 0 → 1 + fieldLength g * (2 + 2 * ((total - (h + 1 + 2 * fieldLength g)) / (2 * fieldLength g))) ≡ len
+count-forth Normal total h len a b c = omega arith
+count-forth Large total h len a b c = omega arith
+
+room-forth : (g : LargeFileFlag) (total h len : ℕ) → total ≡ h + len → 1 + 2 * fieldLength g ≤ len → (len - (1 + 2 * fieldLength g)) % (2 * fieldLength g) ≡ 0 → total - (h + 1 + 2 * fieldLength g) ≡ (total - (h + 1 + 2 * fieldLength g)) / (2 * fieldLength g) * (2 * fieldLength g)
+room-forth Normal total h len a b c = omega arith
+room-forth Large total h len a b c = omega arith
+
+-- F of a packet is that of its flag
+pub f-is : (p : List ℕ) → fieldLengthIn p ≡ fieldLength (packetFlag p)
+unfolding fieldLengthIn
+f-is p = refl
+
+requests-at : (p : List ℕ) → requestsAt p ≡ headerLengthIn p + 1 + 2 * fieldLengthIn p
+unfolding requestsAt scopeAt
+requests-at p = refl
+
+-- the octets behind the scope are those of whole requests
+pub requests-room : (p : List ℕ) → Read p → length p - requestsAt p ≡ (length p - requestsAt p) / (2 * fieldLengthIn p) * (2 * fieldLengthIn p)
+requests-room p r =
+    let t = r .shape in
+    rw (requests-at p, f-is p) (room-forth (packetFlag p) (length p) (headerLengthIn p) (lengthField p) (t .total) (rw (f-is p) at (t .room)) (rw (f-is p) at (t .whole)))
+
+module _ (p : List ℕ) (a : AllOctets p) (r : Read p) where
+  scope-at : scopeAt p ≡ headerLengthIn p + 1
+  unfolding scopeAt
+  scope-at = refl
+
+  e6 : fields (fieldLengthIn p) (flat (packetRequests p)) ≡ drop (requestsAt p) p
+  unfolding packetRequests
+  e6 = requests-forth (fieldLengthIn p) ((length p - requestsAt p) / (2 * fieldLengthIn p)) (drop (requestsAt p) p) (octets-drop (requestsAt p) p a) (length-drop (requestsAt p) p ∙ requests-room p r)
+
+  e5 : field (fieldLengthIn p) (scopeIn p .end) ++ fields (fieldLengthIn p) (flat (packetRequests p)) ≡ drop (scopeAt p + fieldLengthIn p) p
+  unfolding scopeIn
+  e5 = let t = r .shape in let q = requests-at p in let w = scope-at in field-forth p (scopeAt p + fieldLengthIn p) (fieldLengthIn p) (requestsAt p) a (omega arith) (omega arith) e6
+
+  e4 : field (fieldLengthIn p) (scopeIn p .start) ++ (field (fieldLengthIn p) (scopeIn p .end) ++ fields (fieldLengthIn p) (flat (packetRequests p))) ≡ drop (scopeAt p) p
+  unfolding scopeIn
+  e4 = let t = r .shape in let w = scope-at in field-forth p (scopeAt p) (fieldLengthIn p) (scopeAt p + fieldLengthIn p) a refl (omega arith) e5
+
+  e3 : dataField (nakIn p) ≡ drop (headerLengthIn p) p
+  unfolding dataOctets fieldLengthIn
+  e3 = let t = r .shape in let w = scope-at in octet-forth p (headerLengthIn p) (scopeAt p) nakCode a (sym (t .code)) (omega arith) (omega arith) e4
+
+  e0 : identityOctets (packetIdentity p) ++ dataField (nakIn p) ≡ drop 4 p
+  unfolding identityOctets packetIdentity
+  e0 =
+      let t = r .shape in
+      let h = header-is p in
+      let i = entityLengthIn p in
+      let q = numberLengthIn p in
+      let e2 = field-forth p (4 + i + q) i (headerLengthIn p) a (omega arith) (omega arith) e3 in
+      let e1 = field-forth p (4 + i) q (4 + i + q) a refl (omega arith) e2 in
+      let e = field-forth p 4 i (4 + i) a refl (omega arith) e1 in
+      simp append-assoc e
+
+  data-length : length (dataField (nakIn p)) ≡ lengthField p
+  unfolding packetRequests
+  data-length =
+      let t = r .shape in
+      length-data (fieldLength (packetFlag p)) (scopeIn p) (packetRequests p)
+      ∙ rw (length-flat (packetRequests p), length-requests-in (fieldLengthIn p) ((length p - requestsAt p) / (2 * fieldLengthIn p)) (drop (requestsAt p) p), requests-at p, f-is p)
+      (count-forth (packetFlag p) (length p) (headerLengthIn p) (lengthField p) (t .total) (rw (f-is p) at (t .room)) (rw (f-is p) at (t .whole)))
+
+  flag-is : octet0 (packetFlag p) ≡ octetAt p 0
+  unfolding packetFlag
+  flag-is = flag-forth (octetAt p 0) (octetAt p 3) (r .shape .fixed)
+
+  lengths-are : octet3 (entityLengthIn p) (numberLengthIn p) ≡ octetAt p 3
+  unfolding entityLengthIn numberLengthIn
+  lengths-are = lengths-forth (octetAt p 0) (octetAt p 3) (octet-low p 3 a) (r .shape .fixed)
+
+  length-is : field 2 (length (dataField (nakIn p))) ≡ field 2 (fieldAt p 1 2)
+  unfolding lengthField
+  length-is = ap (field 2) data-length
+
+  -- writing what was read gives back every octet: every accepted packet is the PDU of its fields
+  pub pdu-forth : pdu (nakIn p) ≡ p
+  unfolding pdu headerOctets packetIdentity
+  pdu-forth =
+      let t = r .shape in
+      let n = t .enough in
+      let h3 = octet-forth p 3 4 (octet3 (entityLengthIn p) (numberLengthIn p)) a lengths-are refl n e0 in
+      let h1 = field-forth p 1 2 3 a refl (omega arith) h3 in
+      let h0 = octet-forth p 0 1 (octet0 (packetFlag p)) a flag-is refl (omega arith) (ap (λ (os : List ℕ). os ++ (field 1 (octet3 (entityLengthIn p) (numberLengthIn p)) ++ (identityOctets (packetIdentity p) ++ dataField (nakIn p)))) length-is ∙ h1) in
+      h0
