@@ -22,7 +22,8 @@ use Rattle.nak.specs.Writer.{isBadIdentity}
 use Rattle.reception.specs.Record.{recordChecks, Passed}
 use Rattle.reception.specs.declared.Reception.{Reception}
 use Rattle.reception.proofs.Sound.{sound, none-split, none-join}
-use Rattle.nak_sequence.specs.Sequence.{Order, headerOf, largestPdu, largestBudget, isBadSize, isTooLarge, asked, pduCount, sent, newCursor, orderChecks, sequenceChecks, sequenceOutcome, sequenceBuffer}
+use Rattle.nak_sequence.specs.Sequence.{Order, headerOf, largestPdu, largestBudget, isBadSize, isTooLarge, asked}
+use Rattle.nak_sequence.specs.Sequence.{pduCount, sent, newCursor, orderChecks, sequenceChecks, sequenceOutcome, sequenceBuffer}
 
 -- no check of a call is met, in numbers
 pub record Checked (rec : Reception) (xs : List ℕ) (o : Order) (given : ℕ) : Type 0 where
