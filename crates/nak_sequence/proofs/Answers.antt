@@ -2,12 +2,12 @@
 use native.Mathlib.Omega.{arith}
 use mathlib.Core.Path.{_≡_, sym, ap, _∙_}
 use mathlib.Core.Bool.{true, false, _||_}
-use mathlib.Core.List.{List, [], _∷_, _++_}
+use mathlib.Core.List.{List, _++_}
 use Prim.Native.Nat.{ℕ, _+_, _*_, _≤_, _<_}
 use lib.ListN.{length, take, drop}
 use lib.Dec.{ltb}
 use borrow.Author.Tests.{ltb-false, lt-ltb, le-ltb}
-use Rattle.outcomes.specs.Outcome.{Outcome, accepted, lent}
+use Rattle.outcomes.specs.Outcome.{Outcome, lent}
 use Rattle.outcomes.specs.Refusal.{refusing}
 use Rattle.outcomes.specs.Checks.{NoneOf}
 use Rattle.outcomes.specs.declared.Refusal.{Refusal}
@@ -22,7 +22,8 @@ use Rattle.nak.specs.Writer.{isBadIdentity}
 use Rattle.reception.specs.Record.{recordChecks, Passed}
 use Rattle.reception.specs.declared.Reception.{Reception}
 use Rattle.reception.proofs.Sound.{sound, none-split, none-join}
-use Rattle.nak_sequence.specs.Sequence.{Order, headerOf, largestPdu, largestBudget, isBadSize, isTooLarge, asked, pduCount, sent, newCursor, orderChecks, sequenceChecks, sequenceOutcome, sequenceBuffer}
+use Rattle.nak_sequence.specs.Sequence.{Order, headerOf, largestPdu, largestBudget, isBadSize, isTooLarge, asked}
+use Rattle.nak_sequence.specs.Sequence.{sent, reported, orderChecks, sequenceChecks, sequenceOutcome, sequenceBuffer}
 
 -- no check of a call is met, in numbers
 pub record Checked (rec : Reception) (xs : List ℕ) (o : Order) (given : ℕ) : Type 0 where
@@ -55,9 +56,9 @@ none-met rec xs o given k =
     (k .identity, (k .size, (k .large, (le-ltb _ _ (k .cursor), (le-ltb _ _ (k .budget), (le-ltb _ _ (k .room), tt))))))
 
 module _ (rec : Reception) (xs : List ℕ) (o : Order) (buf : List ℕ) where
-  -- what is sent, and the buffer behind it
+  -- what is reported, and the buffer with the octets sent
   abbrev pub done : Outcome
-  done = accepted (pduCount (asked rec xs o) o ∷ length (sent (asked rec xs o) o) ∷ newCursor (asked rec xs o) o ∷ [])
+  done = reported (asked rec xs o) o
 
   abbrev pub new : List ℕ
   new = sent (asked rec xs o) o ++ drop (length (sent (asked rec xs o) o)) buf

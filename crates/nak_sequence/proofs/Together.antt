@@ -18,7 +18,7 @@ use Rattle.nak.specs.Writer.{isBadIdentity}
 use Rattle.reception.specs.declared.Reception.{Reception}
 use Rattle.reception.specs.Record.{Passed}
 use Rattle.nak_sequence.specs.Entries.{Asking, roundedUp, nakAt, naks, octetsOf}
-use Rattle.nak_sequence.specs.Sequence.{Order, isBadSize, isTooLarge, asked, pduCount, sent, newCursor}
+use Rattle.nak_sequence.specs.Sequence.{Order, isBadSize, isTooLarge, asked, pduCount, sent, newCursor, reported}
 use Rattle.nak_sequence.specs.Calls.{Call, Fits, AllFit, calling, answered, bufferAfter, pdusIn, octetsIn, cursorIn, cursorAfter, pdusBy, octetsBy, budgets, wholeSequence}
 use Rattle.nak_sequence.proofs.Answers.{seq-sent}
 use Rattle.nak_sequence.proofs.Chain.{octets-append}
@@ -163,7 +163,7 @@ module _
     from f = roundedUp (length (a .entries) - f) (a .each)
 
     abbrev reports : ℕ → Call → Outcome
-    reports j c = accepted (pduCount a (calling o j c) ∷ length (sent a (calling o j c)) ∷ newCursor a (calling o j c) ∷ [])
+    reports j c = reported a (calling o j c)
 
     sizes : (j : ℕ) (c : Call) → isBadSize (calling o j c) ≡ false
     unfolding isBadSize

@@ -71,6 +71,10 @@ sent a o = octetsOf (naks a (o .cursor) (pduCount a o))
 abbrev pub newCursor : Asking → Order → ℕ
 newCursor a o = min (length (a .entries)) (o .cursor + o .budget * a .each)
 
+-- What is reported: the number of PDUs, the octets written and the new cursor.
+abbrev pub reported : Asking → Order → Outcome
+reported a o = accepted (pduCount a o ∷ length (sent a o) ∷ newCursor a o ∷ [])
+
 -- Checks of the order itself: 13, 14, 7, 11, 20, 6 (buffer shorter than g × P, which is the number needed).
 abbrev pub orderChecks : Reception → List ℕ → Order → ℕ → List Check
 orderChecks rec xs o given =
@@ -87,9 +91,7 @@ abbrev pub sequenceChecks : Reception → List ℕ → Order → ℕ → List Ch
 sequenceChecks rec xs o given = recordChecks rec xs ++ orderChecks rec xs o given
 
 abbrev pub sequenceOutcome : Reception → List ℕ → Order → ℕ → Outcome
-sequenceOutcome rec xs o given =
-    firstOf (sequenceChecks rec xs o given)
-    (accepted (pduCount (asked rec xs o) o ∷ length (sent (asked rec xs o) o) ∷ newCursor (asked rec xs o) o ∷ []))
+sequenceOutcome rec xs o given = firstOf (sequenceChecks rec xs o given) (reported (asked rec xs o) o)
 
 -- The buffer afterwards: the PDUs, and behind them what was there.
 abbrev pub sequenceBuffer : Reception → List ℕ → Order → List ℕ → List ℕ

@@ -22,9 +22,8 @@ use Rattle.ranges.proofs.Runs.{runs-of, one-runs}
 use Rattle.ranges.proofs.Without.{part-covers}
 use Rattle.reception.specs.Record.{mostRanges, recordChecks, Passed}
 use Rattle.reception.specs.declared.Reception.{Reception}
-use Rattle.reception.specs.Data.{dataLeaves, largestNumber, isTooLong, segmentChecks, dataOutcome}
+use Rattle.reception.specs.Data.{dataLeaves, largestNumber, isTooLong, segmentChecks, roomOutcome, dataOutcome}
 use Rattle.reception.specs.Metadata.{markChecks, metadataOutcome}
-use Rattle.reception.proofs.data.Answers.{rest}
 use Rattle.reception.specs.History.{Event, Data, Metadata, State, fresh, outcome, isAccepted, step, run, metadataCame, largestEnd, WouldMiss, keptOrNoticed, rangesOf}
 use Rattle.reception.proofs.Keeping.{kept-covers}
 use Rattle.reception.proofs.Standing.{after-whole}
@@ -59,7 +58,7 @@ kept-if false = (λ e. absurd (none-noticed (sym e)), λ e. absurd (true≢false
 -- a record that is not sound is answered by the first of 10, 8 and 12 that it fails, whatever the event
 module _ (xs : List ℕ) (rec : Reception) (r : Refusal) (f : refusing r ≡ firstOf (recordChecks rec xs) (accepted [])) where
   pub unsound-data : (o z : ℕ) → dataOutcome rec xs o z ≡ refusing r
-  unsound-data o z = sym (refused-record xs rec r (segmentChecks rec o z) (rest rec xs o z) f)
+  unsound-data o z = sym (refused-record xs rec r (segmentChecks rec o z) (roomOutcome rec xs o z) f)
 
   pub unsound-metadata : metadataOutcome rec xs ≡ refusing r
   unsound-metadata = sym (refused-record xs rec r (markChecks rec) (accepted []) f)

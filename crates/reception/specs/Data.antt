@@ -71,11 +71,13 @@ abbrev pub dataChecks : Reception → List ℕ → ℕ → ℕ → List Check
 dataChecks rec xs offset size = recordChecks rec xs ++ segmentChecks rec offset size
 
 -- Behind them: 1. Accepted, it answers 0 while waiting, noticed, and else 1, kept.
+abbrev pub roomOutcome : Reception → List ℕ → ℕ → ℕ → Outcome
+roomOutcome rec xs offset size =
+    cond (isFull (capacity xs) (dataLeaves rec xs offset size)) storeFull
+    (cond (rec .missing) (accepted (0 ∷ [])) (accepted (1 ∷ [])))
+
 abbrev pub dataOutcome : Reception → List ℕ → ℕ → ℕ → Outcome
-dataOutcome rec xs offset size =
-    firstOf (dataChecks rec xs offset size)
-    (cond (isFull (capacity xs) (dataLeaves rec xs offset size)) storeFull
-    (cond (rec .missing) (accepted (0 ∷ [])) (accepted (1 ∷ []))))
+dataOutcome rec xs offset size = firstOf (dataChecks rec xs offset size) (roomOutcome rec xs offset size)
 
 -- The record that an accepted event leaves: progress becomes the larger of itself and the end.
 abbrev pub advanced : Reception → List ℕ → ℕ → ℕ → Reception

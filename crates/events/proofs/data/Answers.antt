@@ -13,8 +13,7 @@ use Rattle.outcomes.proofs.Refusals.{lent-refused}
 use Rattle.outcomes.proofs.FirstOf.{first-none}
 use Rattle.reception.specs.declared.Reception.{Reception}
 use Rattle.reception.specs.Record.{moved}
-use Rattle.reception.specs.Data.{dataLeaves, isFull, dataChecks, advanced, dataOutcome, dataRecord, dataList}
-use Rattle.reception.proofs.data.Answers.{rest}
+use Rattle.reception.specs.Data.{dataLeaves, isFull, dataChecks, roomOutcome, advanced, dataOutcome, dataRecord, dataList}
 
 pub same-moved : (rec : Reception) (p q m n : ℕ) → p ≡ q → m ≡ n → moved rec p m ≡ moved rec q n
 same-moved rec p q m n e f = rw (e, f)
@@ -50,8 +49,8 @@ module _ (rec : Reception) (xs : List ℕ) (offset size : ℕ) where
 
   -- no check is met: the room decides
   module _ (n : NoneOf (dataChecks rec xs offset size)) where
-    from : (o : Outcome) → o ≡ rest rec xs offset size → o ≡ dataOutcome rec xs offset size
-    from o e = e ∙ sym (first-none (dataChecks rec xs offset size) (rest rec xs offset size) n)
+    from : (o : Outcome) → o ≡ roomOutcome rec xs offset size → o ≡ dataOutcome rec xs offset size
+    from o e = e ∙ sym (first-none (dataChecks rec xs offset size) (roomOutcome rec xs offset size) n)
 
     pub no-room : isFull (capacity xs) (dataLeaves rec xs offset size) ≡ true → storeFull ≡ dataOutcome rec xs offset size
     no-room h = from storeFull (rw h)

@@ -14,9 +14,8 @@ use Rattle.outcomes.specs.Named.{storeFull}
 use Rattle.outcomes.proofs.FirstOf.{first-accepted}
 use Rattle.reception.specs.Record.{recordChecks, Passed}
 use Rattle.reception.specs.declared.Reception.{Reception}
-use Rattle.reception.specs.Data.{dataLeaves, isTooLong, isFull, segmentChecks, dataChecks, dataOutcome}
+use Rattle.reception.specs.Data.{dataLeaves, isTooLong, isFull, segmentChecks, dataChecks, roomOutcome, dataOutcome}
 use Rattle.reception.proofs.Sound.{none-split}
-use Rattle.reception.proofs.data.Answers.{rest}
 
 -- no check of the data event is met
 pub record Checked (rec : Reception) (xs : List ℕ) (offset size : ℕ) : Type 0 where
@@ -50,6 +49,6 @@ not-full room rs h = go (ltb room (length rs)) refl
 
 pub taken : (rec : Reception) (xs : List ℕ) (offset size : ℕ) → eqb (dataOutcome rec xs offset size .number) 0 ≡ true → Taken rec xs offset size
 taken rec xs offset size e =
-    let w = first-accepted (dataChecks rec xs offset size) (rest rec xs offset size) e in
+    let w = first-accepted (dataChecks rec xs offset size) (roomOutcome rec xs offset size) e in
     let f = has-room (isFull (capacity xs) (dataLeaves rec xs offset size)) (rec .missing) (w .1) in
     record { checks = checked rec xs offset size (w .0); free = f; room = not-full (capacity xs) (dataLeaves rec xs offset size) f }

@@ -10,17 +10,13 @@ use Rattle.outcomes.specs.Checks.{firstOf}
 use Rattle.outcomes.specs.Named.{storeFull, emptySegment, largeFileSegmentNotSupported, rangeTooLong}
 use Rattle.reception.specs.Record.{Passed}
 use Rattle.reception.specs.declared.Reception.{Reception}
-use Rattle.reception.specs.Data.{dataLeaves, isTooLong, isFull, segmentChecks, dataOutcome}
+use Rattle.reception.specs.Data.{dataLeaves, isTooLong, isFull, segmentChecks, roomOutcome, dataOutcome}
 use Rattle.reception.proofs.Sound.{behind-record}
 
 module _ (rec : Reception) (xs : List ℕ) (offset size : ℕ) where
-  -- what is behind the checks
-  abbrev pub rest : Outcome
-  rest = cond (isFull (capacity xs) (dataLeaves rec xs offset size)) storeFull (cond (rec .missing) (accepted (0 ∷ [])) (accepted (1 ∷ [])))
-
   module _ (p : Passed xs rec) where
-    from : (o : Outcome) → o ≡ firstOf (segmentChecks rec offset size) rest → o ≡ dataOutcome rec xs offset size
-    from o e = e ∙ behind-record xs rec p (segmentChecks rec offset size) rest
+    from : (o : Outcome) → o ≡ firstOf (segmentChecks rec offset size) (roomOutcome rec xs offset size) → o ≡ dataOutcome rec xs offset size
+    from o e = e ∙ behind-record xs rec p (segmentChecks rec offset size) (roomOutcome rec xs offset size)
 
     pub data-empty : size ≡ 0 → emptySegment ≡ dataOutcome rec xs offset size
     data-empty h = from emptySegment (rw (eq-eqb size 0 h))
