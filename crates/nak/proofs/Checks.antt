@@ -9,7 +9,7 @@ use lib.ListN.{length}
 use lib.Seq.{take-length}
 use borrow.Author.Tests.{eqb-false, ltb-false, ltb-true, lt-ltb, le-ltb, eq-eqb, ne-eqb, eqb-true, not-false}
 use Rattle.ranges.proofs.Test.{or-false}
-use Rattle.ranges.specs.Store.{pairs, anyAbove}
+use Rattle.ranges.specs.Store.{pairs, anyAbove, mostNumbers}
 use Rattle.outcomes.specs.Outcome.{Outcome, accepted}
 use Rattle.outcomes.specs.Checks.{Check, firstOf, NoneOf}
 use Rattle.outcomes.proofs.FirstOf.{first-none, first-accepted, first-refused, first-append}
@@ -24,7 +24,7 @@ use Rattle.nak.specs.Pdu.{Nak, pdu}
 use Rattle.nak.specs.Request.{requestsChecks, requestsOutcome}
 use Rattle.nak.proofs.Requests.{fine-requests, requests-fine}
 use Rattle.nak.specs.Inner.{entries, GoodLengths}
-use Rattle.nak.specs.Writer.{largestList, largestPdu, isBadList, isBadLength, isBadIdentity, numbersOf, nakChecks, nakOutcome, writeChecks, writeOutcome, written}
+use Rattle.nak.specs.Writer.{largestPdu, isBadList, isBadLength, isBadIdentity, numbersOf, nakChecks, nakOutcome, writeChecks, writeOutcome, written}
 
 -- no test of either list is met
 pub none-append : (cs ds : List Check) → NoneOf (cs ++ ds) → NoneOf cs × NoneOf ds
@@ -36,12 +36,12 @@ none-both [] ds m n = n
 none-both (c ∷ cs) ds m n = (m .0, none-both cs ds (m .1) n)
 
 -- a list that 10 does not refuse: even, at most 4,096 pairs
-pub good-list : (xs : List ℕ) → isBadList xs ≡ false → (length xs % 2 ≡ 0) × (length xs ≤ largestList)
+pub good-list : (xs : List ℕ) → isBadList xs ≡ false → (length xs % 2 ≡ 0) × (length xs ≤ mostNumbers)
 unfolding isBadList
 good-list xs e =
-    let t = or-false (eqb (length xs % 2) 1) (ltb largestList (length xs)) e in
+    let t = or-false (eqb (length xs % 2) 1) (ltb mostNumbers (length xs)) e in
     let o = eqb-false (length xs % 2) 1 (t .0) in
-    let k = ltb-false largestList (length xs) (t .1) in
+    let k = ltb-false mostNumbers (length xs) (t .1) in
     (omega arith, k)
 
 good-length : (l : ℕ) → isBadLength l ≡ false → (1 ≤ l) × (l ≤ 8)

@@ -4,7 +4,7 @@ use mathlib.Core.Bool.{Bool, _||_, not}
 use mathlib.Core.List.{List, [], _∷_, _++_}
 use lib.Dec.{eqb, ltb}
 use lib.ListN.{length}
-use Rattle.ranges.specs.Store.{flat, anyAbove}
+use Rattle.ranges.specs.Store.{flat, anyAbove, mostNumbers}
 use Rattle.outcomes.specs.Outcome.{Outcome, accepted, lent}
 use Rattle.outcomes.specs.Refusal.{refusing}
 use Rattle.outcomes.specs.Checks.{Check, firstOf}
@@ -17,17 +17,13 @@ use Rattle.nak.specs.declared.writer.WriteAnswer.the-variants.{Written, 
 use Rattle.nak.specs.Pdu.{Nak, pdu}
 use Rattle.nak.specs.Request.{requestsChecks}
 
--- A list of requests has at most 4,096 pairs, so 8,192 numbers.
-abbrev pub largestList : ℕ
-largestList = 8192
-
 -- A PDU has at most 4,096 octets.
 abbrev pub largestPdu : ℕ
 largestPdu = 4096
 
 -- 10: odd flat length, more than 4,096 pairs.
 unfoldable pub isBadList : List ℕ → Bool
-isBadList xs = eqb (length xs % 2) 1 || ltb largestList (length xs)
+isBadList xs = eqb (length xs % 2) 1 || ltb mostNumbers (length xs)
 
 -- An identifier length outside 1 to 8.
 abbrev pub isBadLength : ℕ → Bool

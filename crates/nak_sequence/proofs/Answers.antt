@@ -18,11 +18,11 @@ use Rattle.ranges.specs.Store.{counted, anyAbove}
 use Rattle.ranges.proofs.Last.{above-counted}
 use Rattle.octets.specs.declared.LargeFileFlag.{LargeFileFlag}
 use Rattle.octets.specs.Flag.{fieldLength, largestOf}
-use Rattle.nak.specs.Writer.{isBadIdentity}
+use Rattle.nak.specs.Writer.{isBadIdentity, largestPdu}
 use Rattle.reception.specs.Record.{recordChecks, Passed}
 use Rattle.reception.specs.declared.Reception.{Reception}
 use Rattle.reception.proofs.Sound.{sound, none-split, none-join}
-use Rattle.nak_sequence.specs.Sequence.{Order, headerOf, largestPdu, largestBudget, isBadSize, isTooLarge, asked}
+use Rattle.nak_sequence.specs.Sequence.{Order, headerOf, largestBudget, isBadSize, isTooLarge, asked}
 use Rattle.nak_sequence.specs.Sequence.{sent, reported, orderChecks, sequenceChecks, sequenceOutcome, sequenceBuffer}
 
 -- no check of a call is met, in numbers

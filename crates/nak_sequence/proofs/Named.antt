@@ -17,7 +17,8 @@ use Rattle.ranges.proofs.Fewest.{fewest}
 use Rattle.ranges.proofs.Test.{and-none}
 use Rattle.nak.specs.Writer.{isBadIdentity}
 use Rattle.reception.specs.History.{Event, State, fresh, run, rangesOf, metadataCame, Missing}
-use Rattle.reception.specs.Record.{mostRanges, Passed}
+use Rattle.reception.specs.Record.{Passed}
+use Rattle.ranges.specs.Store.{mostPairs}
 use Rattle.reception.proofs.Records.{mark-metadata}
 use Rattle.reception.proofs.Histories.{missing-exact, list-coalesced, always-sound}
 use Rattle.nak_sequence.specs.Entries.{Asking, entriesOf, roundedUp, naks, octetsOf}
@@ -70,7 +71,7 @@ length-entries false rs = omega arith
 
 -- a run of calls on the record that any history leaves, for an order that checks 13, 14 and 7 pass
 module _
-    (w : Width) (xs : List ℕ) (N : ℕ) (size : length xs ≡ 2 * N) (few : N ≤ mostRanges) (es : List Event)
+    (w : Width) (xs : List ℕ) (N : ℕ) (size : length xs ≡ 2 * N) (few : N ≤ mostPairs) (es : List Event)
     (o : Order)
     (id : isBadIdentity (o .identity) ≡ false)
     (sz : isBadSize o ≡ false)

@@ -13,8 +13,9 @@ use Rattle.octets.specs.declared.LargeFileFlag.the-variants.{Normal, Large}
 use Rattle.octets.specs.Flag.{fieldLength}
 use Rattle.nak.specs.Pdu.{pdu, headerLength}
 use Rattle.nak.proofs.Parts.{length-of-pdu}
+use Rattle.nak.specs.Writer.{largestPdu}
 use Rattle.nak_sequence.specs.Entries.{Asking, perPdu, nakAt, naks, octetsOf}
-use Rattle.nak_sequence.specs.Sequence.{Order, headerOf, isBadSize, largestPdu}
+use Rattle.nak_sequence.specs.Sequence.{Order, headerOf, isBadSize}
 
 pub field-low : (g : LargeFileFlag) → 4 ≤ fieldLength g
 field-low Normal = omega arith

@@ -4,10 +4,10 @@ use mathlib.Core.Bool.{Bool, cond}
 use mathlib.Core.List.{List}
 use lib.ListN.{length}
 use Rattle.reception.specs.declared.Reception.{Reception}
-use Rattle.reception.specs.Record.{mostRanges}
+use Rattle.ranges.specs.Store.{mostPairs}
 
 abbrev pub entryCount : Reception → ℕ
 entryCount rec = cond (rec .missing) (rec .count + 1) (rec .count)
 
 abbrev pub Listed : Reception → List ℕ → Type 0
-Listed rec xs = (2 * rec .count ≤ length xs) × (rec .count ≤ mostRanges)
+Listed rec xs = (2 * rec .count ≤ length xs) × (rec .count ≤ mostPairs)

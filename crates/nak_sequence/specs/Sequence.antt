@@ -13,7 +13,7 @@ use Rattle.octets.specs.declared.LargeFileFlag.{LargeFileFlag}
 use Rattle.octets.specs.Flag.{fieldLength, largestOf}
 use Rattle.nak.specs.declared.Identity.{Identity}
 use Rattle.nak.specs.Pdu.{headerLength}
-use Rattle.nak.specs.Writer.{isBadIdentity}
+use Rattle.nak.specs.Writer.{isBadIdentity, largestPdu}
 use Rattle.reception.specs.declared.Reception.{Reception}
 use Rattle.reception.specs.Record.{recordChecks}
 use Rattle.nak_sequence.specs.declared.SequenceAnswer.{SequenceAnswer}
@@ -40,10 +40,7 @@ order d g p j b = record { identity = d; flag = g; largest = p; cursor = j; budg
 abbrev pub headerOf : Order → ℕ
 headerOf o = headerLength (o .identity .«entity_length») (o .identity .«number_length»)
 
--- A PDU has at most 4,096 octets, and a call writes at most 16 PDUs.
-abbrev pub largestPdu : ℕ
-largestPdu = 4096
-
+-- A call writes at most 16 PDUs.
 abbrev pub largestBudget : ℕ
 largestBudget = 16
 

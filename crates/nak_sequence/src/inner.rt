@@ -7,17 +7,15 @@ ghost use lib.ListN.{length};
 ghost use Rattle.octets.specs.Octets.{withOctets};
 ghost use Rattle.nak.specs.Inner.{GoodLengths};
 ghost use Rattle.nak.specs.Pdu.{pdu, headerLength};
-ghost use Rattle.reception.specs.Record.{mostRanges};
+ghost use Rattle.ranges.specs.Store.{mostPairs};
+ghost use Rattle.nak.specs.Writer.{largestPdu};
 ghost use Rattle.nak_sequence.specs.Entries.{askingFor, entriesIn, perPdu, endOf, scopeStart, roundedUp, nakAt, naks, octetsOf, lastEndOf};
-ghost use Rattle.nak_sequence.specs.Sequence.{largestPdu};
 ghost use Rattle.nak_sequence.specs.Inner.{entryCount, Listed};
 use nak::Identity;
+use nak::LARGEST_PDU;
 use nak::inner::write_at;
 use octets::LargeFileFlag;
 use reception::Reception;
-
-// The most octets of a PDU.
-const LARGEST_PDU: usize = 4096;
 
 // The smaller of two numbers.
 pub fn smaller(a: usize, b: usize) -> usize
@@ -55,7 +53,7 @@ pub fn per_pdu(largest: usize, h: usize, f: usize) -> usize
 
 // E: how many entries there are.
 pub fn entry_count(rec: Reception) -> usize
-    requires { ⌜ rec .count ≤ mostRanges ⌝ }
+    requires { ⌜ rec .count ≤ mostPairs ⌝ }
     ensures { λ r. ⌜ r ≡ entryCount rec ⌝ }
 {
     if rec.missing {

@@ -1,8 +1,8 @@
 // A line of commands: its name, its words, what it does.
 ghost use Prim.Native.Nat.{_≤_};
 ghost use lib.ListN.{length};
-use console_calls::inner::receiving;
 use console_calls::inner::pdus;
+use console_calls::inner::receiving;
 use console_calls::inner::state;
 use console_calls::inner::state::State;
 use console_calls::inner::store;

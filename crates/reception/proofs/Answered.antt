@@ -11,7 +11,7 @@ use lib.ListN.{length, getD}
 use borrow.Author.Tests.{lt-ltb, le-ltb}
 use Rattle.ranges.specs.Range.{Range, Covers, Coalesced}
 use Rattle.ranges.specs.Run.{RunsOf}
-use Rattle.ranges.specs.Store.{capacity, limitOf}
+use Rattle.ranges.specs.Store.{capacity, limitOf, mostPairs}
 use Rattle.outcomes.specs.Outcome.{Outcome, accepted}
 use Rattle.outcomes.specs.Named.{storeFull, emptySegment, largeFileSegmentNotSupported, rangeTooLong, alreadyKnown}
 use Rattle.outcomes.specs.Refusal.{refusing}
@@ -20,7 +20,7 @@ use Rattle.outcomes.specs.declared.Refusal.{Refusal}
 use Rattle.ranges.specs.declared.Width.{Width}
 use Rattle.ranges.proofs.Runs.{runs-of, one-runs}
 use Rattle.ranges.proofs.Without.{part-covers}
-use Rattle.reception.specs.Record.{mostRanges, recordChecks, Passed}
+use Rattle.reception.specs.Record.{recordChecks, Passed}
 use Rattle.reception.specs.declared.Reception.{Reception}
 use Rattle.reception.specs.Data.{dataLeaves, largestNumber, isTooLong, segmentChecks, roomOutcome, dataOutcome}
 use Rattle.reception.specs.Metadata.{markChecks, metadataOutcome}
@@ -64,7 +64,7 @@ module _ (xs : List ℕ) (rec : Reception) (r : Refusal) (f : refusing r ≡ fir
   unsound-metadata = sym (refused-record xs rec r (markChecks rec) (accepted []) f)
 
 -- after any events of a fresh reception with room for N, whatever the lent list holds
-module _ (w : Width) (xs : List ℕ) (N : ℕ) (size : length xs ≡ 2 * N) (few : N ≤ mostRanges) (es : List Event) where
+module _ (w : Width) (xs : List ℕ) (N : ℕ) (size : length xs ≡ 2 * N) (few : N ≤ mostPairs) (es : List Event) where
   abbrev start : State
   start = fresh w xs
 

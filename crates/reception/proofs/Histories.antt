@@ -11,13 +11,13 @@ use native.Mathlib.Decide.{decLt}
 use lib.ListN.{length}
 use Rattle.ranges.specs.Range.{Range, range, In, Covers, Coalesced, lastEnd}
 use Rattle.ranges.specs.Run.{RunsOf}
-use Rattle.ranges.specs.Store.{stored}
+use Rattle.ranges.specs.Store.{stored, mostPairs}
 use Rattle.ranges.specs.Without.{Outside}
 use Rattle.ranges.specs.declared.Width.{Width}
 use Rattle.ranges.proofs.Runs.{runs-of}
 use Rattle.ranges.proofs.Stored.{counted-stored}
 use Rattle.ranges.proofs.Without.{part-covers, length-part}
-use Rattle.reception.specs.Record.{mostRanges, waitingRanges, known as cleared, Passed}
+use Rattle.reception.specs.Record.{waitingRanges, known as cleared, Passed}
 use Rattle.reception.specs.Data.{keptRanges, dataLeaves, advanced}
 use Rattle.reception.specs.History.{Event, Data, Metadata, State, fresh, isAccepted, step, run, isMetadataCome, keptBy, keptFrom, kept, acceptedOf, Missing, rangesOf}
 use Rattle.reception.proofs.Keeping.{kept-covers, length-kept}
@@ -207,7 +207,7 @@ history (e ∷ es) s N P n known g h =
     counted-more false k = omega arith
 
 -- a fresh reception with room for N, whatever the lent list holds
-module _ (w : Width) (xs : List ℕ) (N : ℕ) (size : length xs ≡ 2 * N) (few : N ≤ mostRanges) (es : List Event) where
+module _ (w : Width) (xs : List ℕ) (N : ℕ) (size : length xs ≡ 2 * N) (few : N ≤ mostPairs) (es : List Event) where
   abbrev start : State
   start = fresh w xs
 
@@ -255,7 +255,7 @@ module _ (w : Width) (xs : List ℕ) (N : ℕ) (size : length xs ≡ 2 * N) (few
   always-sound = standing-passed reached N (holds .standing)
 
 -- what an accepted event does to the set
-module _ (w : Width) (xs : List ℕ) (N : ℕ) (size : length xs ≡ 2 * N) (few : N ≤ mostRanges) (es : List Event) (o z : ℕ) where
+module _ (w : Width) (xs : List ℕ) (N : ℕ) (size : length xs ≡ 2 * N) (few : N ≤ mostPairs) (es : List Event) (o z : ℕ) where
   abbrev before : State
   before = run (fresh w xs) es
 

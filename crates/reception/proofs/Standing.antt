@@ -9,13 +9,13 @@ use native.Mathlib.Decide.{decLt}
 use lib.ListN.{length, take}
 use borrow.Author.Tests.{le-ltb}
 use Rattle.ranges.specs.Range.{Range, Above, Coalesced, lastEnd}
-use Rattle.ranges.specs.Store.{counted, flat, limitOf, anyAbove, isBadStore, stored}
+use Rattle.ranges.specs.Store.{counted, flat, limitOf, anyAbove, isBadStore, stored, mostPairs}
 use Rattle.ranges.specs.declared.Width.{Width}
 use Rattle.ranges.proofs.Stored.{counted-stored, take-stored, length-stored}
 use Rattle.ranges.proofs.Good.{good-store}
 use Rattle.ranges.proofs.Without.{part-one, part-none}
 use Rattle.reception.specs.declared.Reception.{Reception}
-use Rattle.reception.specs.Record.{mostRanges, isBadRecord, isWaiting, waitingRanges, moved, Passed}
+use Rattle.reception.specs.Record.{isBadRecord, isWaiting, waitingRanges, moved, Passed}
 use Rattle.reception.specs.Data.{dataRanges}
 use Rattle.reception.specs.History.{State, rangesOf, fresh}
 use Rattle.ranges.proofs.Last.{ends-le, last-tail}
@@ -25,7 +25,7 @@ use Rattle.reception.proofs.Sound.{passed, ten-wait}
 
 pub record Standing (s : State) (N : ℕ) : Type 0 where
   pub size : length (s .list) ≡ 2 * N
-  pub few : N ≤ mostRanges
+  pub few : N ≤ mostPairs
   pub room : s .rec .count ≤ N
   pub held : take (2 * s .rec .count) (s .list) ≡ flat (rangesOf s)
   pub whole : Coalesced (rangesOf s)
@@ -110,6 +110,6 @@ standing-stored s N h rs p k c l b w =
     }
 
 -- a fresh reception
-pub standing-fresh : (w : Width) (xs : List ℕ) (N : ℕ) → length xs ≡ 2 * N → N ≤ mostRanges → Standing (fresh w xs) N
+pub standing-fresh : (w : Width) (xs : List ℕ) (N : ℕ) → length xs ≡ 2 * N → N ≤ mostPairs → Standing (fresh w xs) N
 standing-fresh w xs N z f =
     record { size = z; few = f; room = omega arith; held = refl; whole = tt; last = omega arith; small = omega arith; waits = λ q. refl }

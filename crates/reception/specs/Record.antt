@@ -12,13 +12,6 @@ use Rattle.outcomes.specs.declared.Refusal.the-variants as refusal
 use Rattle.ranges.specs.declared.Width.{Width}
 use Rattle.reception.specs.declared.Reception.{Reception}
 
--- A list holds at most 4,096 ranges, so at most 8,192 numbers.
-abbrev pub mostRanges : ℕ
-mostRanges = 4096
-
-abbrev pub mostNumbers : ℕ
-mostNumbers = 8192
-
 -- A fresh record: progress 0, empty list, metadata missing.
 abbrev pub freshRecord : Width → Reception
 freshRecord w = record { progress = 0; count = 0; width = w; missing = true }

@@ -4,11 +4,10 @@ use octets::LargeFileFlag;
 ghost use mathlib.Core.Path.{_≡_};
 ghost use Prim.Native.Nat.{_≤_};
 ghost use lib.ListN.{length};
-ghost use Rattle.ranges.specs.Store.{flat};
+ghost use Rattle.ranges.specs.Store.{flat, mostNumbers};
 ghost use Rattle.octets.specs.Flag.{fieldLength};
 ghost use Rattle.nak.specs.Pdu.{headerLength, dataLength, pduLength};
 ghost use Rattle.nak.specs.Inner.{asked, GoodLengths};
-ghost use Rattle.nak.specs.Writer.{largestList};
 
 // H, by the identifier lengths.
 pub fn header_length(i: usize, q: usize) -> usize
@@ -29,7 +28,7 @@ pub fn data_length(flag: LargeFileFlag, numbers: usize) -> usize
 
 // The length of a PDU whose requests have so many numbers.
 pub fn pdu_length(identity: Identity, flag: LargeFileFlag, numbers: usize) -> usize
-    requires { ⌜ GoodLengths identity × (numbers ≤ largestList) ⌝ }
+    requires { ⌜ GoodLengths identity × (numbers ≤ mostNumbers) ⌝ }
     ensures { λ r. ⌜ r ≡ pduLength flag identity numbers ⌝ }
 {
     let h = header_length(identity.entity_length, identity.number_length);

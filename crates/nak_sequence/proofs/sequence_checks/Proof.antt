@@ -14,12 +14,12 @@ use Rattle.outcomes.specs.declared.Refusal.{Refusal}
 use Rattle.outcomes.proofs.FirstOf.{none-of}
 use Rattle.octets.specs.Flag.{fieldLength}
 use Rattle.nak.specs.Inner.{GoodLengths}
-use Rattle.nak.specs.Writer.{isBadIdentity}
+use Rattle.nak.specs.Writer.{isBadIdentity, largestPdu}
 use Rattle.nak.proofs.Checks.{good-lengths}
 use Rattle.reception.specs.declared.Reception.{Reception}
 use Rattle.reception.specs.Record.{recordChecks, Passed}
 use Rattle.reception.proofs.Sound.{Sound, sound, refused-record, behind-record}
-use Rattle.nak_sequence.specs.Sequence.{Order, order, largestPdu, largestBudget, isBadSize, isTooLarge, asked, orderChecks}
+use Rattle.nak_sequence.specs.Sequence.{Order, order, largestBudget, isBadSize, isTooLarge, asked, orderChecks}
 use Rattle.nak_sequence.proofs.Listed.{length-entries}
 use Rattle.nak_sequence.proofs.Sizes.{field-high, small-size}
 use Rattle.nak_sequence.proofs.Answers.{size-of, large-progress, large-fine}

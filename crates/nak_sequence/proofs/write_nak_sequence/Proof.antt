@@ -17,9 +17,10 @@ use Rattle.nak.specs.Pdu.{headerLength}
 use Rattle.nak.proofs.Checks.{good-lengths}
 use Rattle.reception.specs.declared.Reception.{Reception}
 use Rattle.reception.proofs.Sound.{Sound, sound}
+use Rattle.nak.specs.Writer.{largestPdu}
 use Rattle.nak_sequence.specs.Entries.{Asking, askingFor, perPdu, roundedUp, naks, octetsOf}
 use Rattle.nak_sequence.specs.Inner.{entryCount, Listed}
-use Rattle.nak_sequence.specs.Sequence.{Order, order, headerOf, largestPdu, largestBudget, asked, pduCount, sent, newCursor, sequenceChecks}
+use Rattle.nak_sequence.specs.Sequence.{Order, order, headerOf, largestBudget, asked, pduCount, sent, newCursor, sequenceChecks}
 use Rattle.nak_sequence.proofs.Listed.{length-entries, count-le}
 use Rattle.nak_sequence.proofs.Sizes.{field-low, field-high, per-high, pdu-short, octets-short, small-size, some-each, each-low}
 use Rattle.nak_sequence.proofs.Answers.{Checked, checked, done, refused-by, sent-by}

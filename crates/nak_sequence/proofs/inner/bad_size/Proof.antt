@@ -1,7 +1,7 @@
 -- `bad_size` meets its contract.
 use borrow.Author.Needs.{needs}
 use borrow.Author.Tests.{lt-ltb, le-ltb}
-use Rattle.nak_sequence.specs.Sequence.{largestPdu}
+use Rattle.nak.specs.Writer.{largestPdu}
 use Rattle.nak_sequence.proofs.inner.bad_size.Statement.{statement}
 use Rattle.nak_sequence.proofs.inner.bad_size.Tie as tie
 
