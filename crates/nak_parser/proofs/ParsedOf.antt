@@ -2,7 +2,7 @@
 use mathlib.Core.Path.{_≡_, refl, ap}
 use mathlib.Core.Bool.{Bool, true, false}
 use mathlib.Core.List.{List, []}
-use Prim.Native.Nat.{ℕ, _+_, _*_, _-_, _≤_, _<_}
+use Prim.Native.Nat.{ℕ, _-_, _≤_, _<_}
 use native.Mathlib.Omega.{arith}
 use lib.Dec.{eqb}
 use lib.ListN.{length, take, drop, length-drop}
@@ -17,7 +17,7 @@ use Rattle.outcomes.specs.Named.{lengthMismatch}
 use Rattle.outcomes.specs.Refusal.{refusing}
 use Rattle.outcomes.specs.declared.Refusal.{Refusal}
 use Rattle.outcomes.proofs.Refusals.{refuses}
-use Rattle.nak_parser.specs.Parser.{packetFlag, fieldLengthIn, packetIdentity, scopeIn, scopeAt, requestsAt, readOutcome, acceptedParsed, refusedParsed, parsedOf, requestsPart}
+use Rattle.nak_parser.specs.Parser.{packetFlag, packetIdentity, scopeIn, scopeAt, requestsAt, readOutcome, acceptedParsed, refusedParsed, parsedOf, requestsPart}
 use Rattle.nak_parser.proofs.Reading.{Read, read-of}
 
 -- an accepted packet of this identity, flag and scope, its requests from here to there
