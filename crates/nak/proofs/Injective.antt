@@ -1,7 +1,5 @@
 -- Two answers with one outcome are equal, so the statement of writing allows one answer.
 use mathlib.Core.Path.{_≡_, sym, ap}
-use Prim.Native.Nat.{ℕ}
-use lib.ListN.{getD}
 use Rattle.outcomes.specs.Outcome.{Outcome}
 use Rattle.outcomes.proofs.Refusals.{value, one-refusal, no-refusal}
 use Rattle.nak.specs.declared.writer.WriteAnswer.{WriteAnswer}

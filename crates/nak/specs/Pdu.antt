@@ -57,6 +57,6 @@ dataLength f numbers = 1 + f * (2 + numbers)
 abbrev pub pduLength : LargeFileFlag → Identity → ℕ → ℕ
 pduLength g d numbers = headerLength (d .«entity_length») (d .«number_length») + dataLength (fieldLength g) numbers
 
--- The PDU: header, identity, data field.
+-- The PDU: header, identity, data field. Behind that would stand a trailer; there is none.
 unfoldable pub pdu : Nak → List ℕ
 pdu n = header n ++ (identityOctets (n .identity) ++ dataField n)

@@ -1,5 +1,5 @@
 -- What the checks of reading show: those of the shape, and of a packet that is accepted.
-use mathlib.Core.Path.{_≡_, refl, ap, _∙_}
+use mathlib.Core.Path.{_≡_, refl, _∙_}
 use mathlib.Core.Bool.{false}
 use mathlib.Core.List.{List, [], _∷_, _++_}
 use Prim.Native.Nat.{ℕ, _+_, _*_, _-_, _/_, _%_, _≤_, _<_}
@@ -10,7 +10,7 @@ use lib.Seq.{length-take-le}
 use borrow.Author.Tests.{eqb-true, eqb-false, ltb-false, le-ltb, eq-eqb, not-false}
 use Rattle.ranges.proofs.Test.{or-false}
 use Rattle.ranges.specs.Range.{range}
-use Rattle.outcomes.specs.Outcome.{Outcome, accepted}
+use Rattle.outcomes.specs.Outcome.{accepted}
 use Rattle.outcomes.specs.Checks.{Check, firstOf, NoneOf}
 use Rattle.outcomes.specs.declared.Refusal.the-variants as refusal
 use Rattle.outcomes.proofs.FirstOf.{first-append, first-none, first-accepted}
@@ -25,7 +25,7 @@ use Rattle.nak.specs.Pdu.{nakCode}
 use Rattle.nak.specs.Request.{requestsChecks, requestsOutcome}
 use Rattle.nak.specs.Writer.{largestPdu}
 use Rattle.nak.proofs.Requests.{requests-fine, fine-requests}
-use Rattle.nak.proofs.Checks.{none-append, none-both}
+use Rattle.nak.proofs.Checks.{none-append}
 use Rattle.nak_parser.specs.Parser.{octetAt, fieldAt, packetFlag, fieldLengthIn, entityLengthIn, numberLengthIn, headerLengthIn, lengthField}
 use Rattle.nak_parser.specs.Parser.{scopeAt, behindScope, requestsAt, requestsIn, packetIdentity, scopeIn, packetRequests, isWrongLength, wrongLength, isWrongData, wrongData, shapeChecks, readChecks, readOutcome}
 

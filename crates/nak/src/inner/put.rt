@@ -119,5 +119,6 @@ pub fn write_at(
     put_identity(buf, at + 4, identity);
     let place = at + header_length(i, q);
     put_data(buf, place, f, start, end, metadata, requests, first, count);
+    // Behind the data field: no trailer.
     place + len
 }

@@ -11,12 +11,12 @@ use Rattle.outcomes.specs.Outcome.{accepted}
 use Rattle.outcomes.specs.Checks.{firstOf, NoneOf, verdictCase}
 use Rattle.outcomes.specs.declared.Refusal.{Refusal}
 use Rattle.outcomes.specs.declared.Refusal.the-variants as refusal
-use Rattle.outcomes.proofs.FirstOf.{first-append, first-refused, none-of}
+use Rattle.outcomes.proofs.FirstOf.{first-refused, none-of}
 use Rattle.octets.specs.Flag.{fieldLength}
 use Rattle.nak.specs.Writer.{largestPdu}
 use Rattle.nak.specs.Request.{requestsChecks}
 use Rattle.nak_parser.specs.declared.inner.Header.{Header}
-use Rattle.nak_parser.specs.Parser.{headerIn, fieldLengthIn, headerLengthIn, behindScope, requestsAt, scopeIn, packetRequests, shapeChecks, readChecks, readOutcome, acceptedParsed}
+use Rattle.nak_parser.specs.Parser.{fieldLengthIn, headerLengthIn, behindScope, requestsAt, scopeIn, packetRequests, shapeChecks, readOutcome}
 use Rattle.nak_parser.proofs.Reading.{is-scope, is-place, is-requests, field-low, field-high, header-high}
 use Rattle.nak_parser.proofs.Reading.{Shape, shape-of, sizeCheck, scopeChecks, in-order, from-scope, from-requests, from-size}
 use Rattle.nak_parser.proofs.ParsedOf.{parsed-accepted, parsed-by, short, is-parsed}

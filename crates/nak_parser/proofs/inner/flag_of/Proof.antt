@@ -1,9 +1,5 @@
 -- `nak_parser::inner::flag_of` meets its contract: the test is the definition's.
 use borrow.Author.Tests.{eq-eqb, ne-eqb}
-use native.Mathlib.Omega.{arith}
-use Prim.Native.Nat.{ℕ, suc, _+_, _*_, _-_, _≤_, _<_}
-use mathlib.Core.Path.{_≡_, refl, sym, ap, _∙_}
-use lib.ListN.{length, getD, take, drop, set}
 use Rattle.nak_parser.proofs.inner.flag_of.Statement.{statement}
 use Rattle.nak_parser.proofs.inner.flag_of.Tie as tie
 

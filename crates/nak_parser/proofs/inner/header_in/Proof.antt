@@ -1,7 +1,6 @@
 -- `nak_parser::inner::header_in` meets its contract: it computes the definition.
-use mathlib.Core.Path.{_≡_, ap, _∙_}
-use Rattle.nak.specs.Header.{flagOf, entityLengthOf, numberLengthOf}
-use Rattle.nak.specs.Pdu.{headerLength}
+use mathlib.Core.Path.{ap, _∙_}
+use Rattle.nak.specs.Header.{flagOf}
 use Rattle.nak_parser.specs.Parser.{packetFlag, entityLengthIn, numberLengthIn, headerLengthIn, lengthField}
 use borrow.Author.Needs.{needs}
 use Rattle.nak_parser.proofs.inner.header_in.Statement.{statement}

@@ -7,11 +7,6 @@ use lib.ListN.{length}
 use Rattle.nak_parser.specs.Parser.{headerIn}
 use Rattle.nak_parser.specs.declared.inner.Header.{Header}
 use Rattle.nak_parser.proofs.Reading.{entity-high, number-high, header-is, is-identity}
-use borrow.Author.Needs.{needs}
-use native.Mathlib.Omega.{arith}
-use Prim.Native.Nat.{ℕ, suc, _+_, _*_, _-_, _≤_, _<_}
-use mathlib.Core.Path.{_≡_, refl, sym, ap, _∙_}
-use lib.ListN.{length, getD, take, drop, set}
 use Rattle.nak_parser.proofs.inner.identity_in.Statement.{statement}
 use Rattle.nak_parser.proofs.inner.identity_in.Tie as tie
 

@@ -1,18 +1,17 @@
 -- `nak_parser::inner::shape` meets its contract: the tests in order.
 use native.Mathlib.Omega.{arith}
-use Prim.Native.Nat.{ℕ, _+_, _≤_}
+use Prim.Native.Nat.{ℕ}
 use mathlib.Core.Path.{_≡_, sym, ap, _∙_}
-use mathlib.Core.Bool.{Bool, false}
+use mathlib.Core.Bool.{false}
 use mathlib.Core.List.{List}
 use lib.Dec.{ltb}
 use lib.ListN.{length}
 use borrow.Author.Tests.{le-ltb, eq-eqb, ne-eqb}
 use Rattle.octets.proofs.Fields.{octets-all}
 use Rattle.octets.specs.Flag.{fieldLength}
-use Rattle.octets.specs.declared.LargeFileFlag.{LargeFileFlag}
 use Rattle.nak.specs.Header.{wrongFixed}
 use Rattle.nak.specs.Pdu.{nakCode}
-use Rattle.nak_parser.specs.Parser.{octetAt, headerIn, fieldLengthIn, headerLengthIn, lengthField, wrongLength, wrongData}
+use Rattle.nak_parser.specs.Parser.{octetAt, fieldLengthIn, headerLengthIn, lengthField, wrongLength, wrongData}
 use Rattle.nak_parser.specs.declared.inner.Header.{Header}
 use Rattle.nak_parser.proofs.Reading.{field-low, field-high, header-high, length-low, right-length, is-length, is-data}
 use borrow.Author.Needs.{needs}

@@ -1,6 +1,5 @@
 -- `nak::inner::identity::bad_length` meets its contract: the tests are the definition's.
 use borrow.Author.Tests.{eq-eqb, ne-eqb}
-use borrow.Author.Tests.{eq-eqb, ne-eqb}
 use Rattle.nak.proofs.inner.identity.bad_length.Statement.{statement}
 use Rattle.nak.proofs.inner.identity.bad_length.Tie as tie
 

@@ -1,6 +1,6 @@
 -- `nak::inner::lengths::data_length` meets its contract: the sum fits, and is the definition's.
 use native.Mathlib.Omega.{arith}
-use Prim.Native.Nat.{ℕ, _+_, _*_, _≤_}
+use Prim.Native.Nat.{ℕ, _+_, _*_}
 use mathlib.Core.Path.{_≡_, ap}
 use borrow.Author.Needs.{needs}
 use Rattle.octets.specs.Flag.{fieldLength}

@@ -1,7 +1,7 @@
 -- `nak::inner::lengths::pdu_length` meets its contract: the sum fits, and is the definition's.
 use native.Mathlib.Omega.{arith}
 use Prim.Native.Nat.{_+_, _*_, _≤_}
-use mathlib.Core.Path.{_≡_, refl}
+use mathlib.Core.Path.{refl}
 use borrow.Author.Needs.{needs}
 use Rattle.octets.specs.Flag.{fieldLength}
 use Rattle.nak.proofs.Parts.{f-high}

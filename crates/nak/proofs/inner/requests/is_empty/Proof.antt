@@ -1,7 +1,6 @@
 -- `nak::inner::requests::is_empty` meets its contract: the tests are the definition's.
 use borrow.Author.Tests.{eq-eqb, ne-eqb}
 use Rattle.nak.proofs.Requests.{first-empty}
-use borrow.Author.Tests.{eq-eqb, ne-eqb}
 use Rattle.nak.proofs.inner.requests.is_empty.Statement.{statement}
 use Rattle.nak.proofs.inner.requests.is_empty.Tie as tie
 
