@@ -1,21 +1,21 @@
 // Of the store's five calls.
 ghost use mathlib.Core.Path.{_≡_};
-ghost use Rattle.lost_segments.specs.Add.{addCase};
-ghost use Rattle.lost_segments.specs.Remove.{removeCase};
-ghost use Rattle.lost_segments.specs.Coalesce.{coalesceCase};
-ghost use Rattle.lost_segments.specs.SegmentInStore.{inStoreCase};
-ghost use Rattle.lost_segments.specs.WriteSegmentsToBytes.{writeCase};
+ghost use Rattle.store.specs.Add.{addCase};
+ghost use Rattle.store.specs.Remove.{removeCase};
+ghost use Rattle.store.specs.Coalesce.{coalesceCase};
+ghost use Rattle.store.specs.SegmentInStore.{inStoreCase};
+ghost use Rattle.store.specs.WriteSegmentsToBytes.{writeCase};
 ghost use Rattle.c_answers.specs.Answer.{answerOf};
 use crate::PusmarkeAnswer;
 use crate::inner::wide;
 use crate::inner::with_one;
 use crate::inner::with_two;
 use crate::refusal::of_refusal;
-use lost_segments::add::AddAnswer;
-use lost_segments::coalesce::CoalesceAnswer;
-use lost_segments::remove::RemoveAnswer;
-use lost_segments::segment_in_store::InStoreAnswer;
-use lost_segments::write_segments_to_bytes::WriteAnswer;
+use store::add::AddAnswer;
+use store::coalesce::CoalesceAnswer;
+use store::remove::RemoveAnswer;
+use store::segment_in_store::InStoreAnswer;
+use store::write_segments_to_bytes::WriteAnswer;
 
 pub fn of_add(a: AddAnswer) -> PusmarkeAnswer
     ensures { λ r. ⌜ r ≡ answerOf (addCase a) ⌝ }

@@ -4,11 +4,11 @@ ghost use Rattle.c_values.specs.Input.{isSet, widthIn, flagIn, storeOf, 
 ghost use Rattle.c_values.specs.Output.{markOf};
 use crate::PusmarkeIdentity;
 use crate::PusmarkeReception;
-use lost_segments::Store;
 use nak::Identity;
 use octets::LargeFileFlag;
 use ranges::Width;
 use reception::Reception;
+use store::Store;
 
 pub fn is_set(mark: u64) -> bool
     ensures { λ r. ⌜ r ≡ isSet mark ⌝ }

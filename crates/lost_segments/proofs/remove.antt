@@ -1,4 +1,2 @@
 pub mod Found
 pub mod Answers
-pub mod Split
-pub mod Meaning

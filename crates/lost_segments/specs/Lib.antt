@@ -1,8 +1,0 @@
-pub mod Checks
-pub mod Add
-pub mod Remove
-pub mod Coalesce
-pub mod SegmentInStore
-pub mod WriteSegmentsToBytes
-pub mod Inner
-pub mod Slots

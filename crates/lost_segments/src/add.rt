@@ -3,16 +3,12 @@ ghost use mathlib.Core.Path.{_≡_};
 ghost use mathlib.Core.List.{[]};
 ghost use Rattle.outcomes.specs.Outcome.{accepted};
 ghost use Rattle.outcomes.specs.Checks.{firstOf, verdictCase};
-ghost use Rattle.lost_segments.specs.Add.{addCase, addChecks, addOutcome, addList};
-use crate::Store;
+ghost use Rattle.store.specs.Add.{addCase, addChecks, addOutcome, addList};
 use outcomes::Refusal;
 use outcomes::Verdict;
 use ranges::inner::pairs::put_pair;
-
-pub enum AddAnswer {
-    Added(usize),
-    Refused(Refusal),
-}
+use store::Store;
+use store::add::AddAnswer;
 
 // The checks of add, in order.
 fn add_checks(st: Store, list: &[u64], start: u64, end: u64) -> Verdict
@@ -42,17 +38,15 @@ fn add_checks(st: Store, list: &[u64], start: u64, end: u64) -> Verdict
     Verdict::Passed
 }
 
-impl Store {
-    pub fn add(self, list: &mut [u64], start: u64, end: u64) -> AddAnswer
-        ensures { λ r. ⌜ addCase r ≡ addOutcome (now (list .entry)) self start end ⌝ }
-        ensures { λ _. ⌜ now (list .exit) ≡ addList (now (list .entry)) self start end ⌝ }
-    {
-        let found = add_checks(self, list, start, end);
-        if let Verdict::Refused(r) = found {
-            return AddAnswer::Refused(r);
-        }
-        let count = self.count;
-        put_pair(list, count, start, end);
-        AddAnswer::Added(count + 1)
+pub fn add(st: Store, list: &mut [u64], start: u64, end: u64) -> AddAnswer
+    ensures { λ r. ⌜ addCase r ≡ addOutcome (now (list .entry)) st start end ⌝ }
+    ensures { λ _. ⌜ now (list .exit) ≡ addList (now (list .entry)) st start end ⌝ }
+{
+    let found = add_checks(st, list, start, end);
+    if let Verdict::Refused(r) = found {
+        return AddAnswer::Refused(r);
     }
+    let count = st.count;
+    put_pair(list, count, start, end);
+    AddAnswer::Added(count + 1)
 }

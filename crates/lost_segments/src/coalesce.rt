@@ -1,91 +1,20 @@
-// coalesce: the maximal runs of the counted pairs, by a sort where they lie and one pass.
+// coalesce: the maximal runs of the counted pairs.
 ghost use mathlib.Core.Path.{_≡_};
-ghost use Prim.Native.Nat.{_+_, _*_, _≤_};
-ghost use lib.ListN.{length};
-ghost use Rattle.ranges.specs.Range.{range, Coalesced};
-ghost use Rattle.ranges.specs.Insert.{join};
-ghost use Rattle.ranges.specs.Store.{counted, stored};
-ghost use Rattle.pair_sort.specs.Sorted.{Ascending};
-ghost use Rattle.lost_segments.specs.Coalesce.{coalesceCase, coalesceOutcome, coalesceList, maximalRuns};
-ghost use Rattle.lost_segments.specs.Inner.{Low};
-use crate::Store;
+ghost use Rattle.store.specs.Coalesce.{coalesceCase, coalesceOutcome, coalesceList};
 use crate::inner::store_checks;
+use coalescing::inner::coalesce_counted;
 use outcomes::Refusal;
 use outcomes::Verdict;
-use pair_sort::inner::sort_pairs;
-use ranges::inner::moves::tidy;
-use ranges::inner::pairs::end_at;
-use ranges::inner::pairs::put_end;
-use ranges::inner::pairs::put_pair;
-use ranges::inner::pairs::start_at;
+use store::Store;
+use store::coalesce::CoalesceAnswer;
 
-pub enum CoalesceAnswer {
-    Coalesced(usize),
-    Refused(Refusal),
-}
-
-// (s, e) joins the last of the first m ranges, or goes behind it.
-fn put_last(list: &mut [u64], m: usize, s: u64, e: u64) -> usize
-    requires { ⌜ 2 * m + 2 ≤ length (now list) ⌝ }
-    requires { ⌜ Coalesced (counted (now list) m) ⌝ }
-    requires { ⌜ Low s (counted (now list) m) ⌝ }
-    ensures { λ r. ⌜ r ≡ length (join (range s e) (counted (now (list .entry)) m)) ⌝ }
-    ensures { λ r. ⌜ now (list .exit) ≡ stored (join (range s e) (counted (now (list .entry)) m)) m (now (list .entry)) ⌝ }
+pub fn coalesce(st: Store, list: &mut [u64]) -> CoalesceAnswer
+    ensures { λ r. ⌜ coalesceCase r ≡ coalesceOutcome (now (list .entry)) st ⌝ }
+    ensures { λ _. ⌜ now (list .exit) ≡ coalesceList (now (list .entry)) st ⌝ }
 {
-    if e <= s {
-        return m;
+    let found = store_checks(st, list);
+    if let Verdict::Refused(r) = found {
+        return CoalesceAnswer::Refused(r);
     }
-    if 0 < m {
-        let l = m - 1;
-        let h = end_at(list, l);
-        if s <= h {
-            if h < e {
-                put_end(list, l, e);
-            }
-            return m;
-        }
-    }
-    put_pair(list, m, s, e);
-    m + 1
-}
-
-// The pass over n pairs whose starts ascend.
-fn merge_ascending(list: &mut [u64], n: usize) -> usize
-    requires { ⌜ 2 * n ≤ length (now list) ⌝ }
-    requires { ⌜ Ascending (now list) n ⌝ }
-    ensures { λ r. ⌜ r ≡ length (maximalRuns (counted (now (list .entry)) n)) ⌝ }
-    ensures { λ r. ⌜ now (list .exit) ≡ stored (maximalRuns (counted (now (list .entry)) n)) n (now (list .entry)) ⌝ }
-{
-    let mut m = 0;
-    let mut k = 0;
-    while k < n {
-        let s = start_at(list, k);
-        let e = end_at(list, k);
-        m = put_last(list, m, s, e);
-        k += 1;
-    }
-    tidy(list, m, n);
-    m
-}
-
-fn coalesce_counted(list: &mut [u64], n: usize) -> usize
-    requires { ⌜ 2 * n ≤ length (now list) ⌝ }
-    ensures { λ r. ⌜ r ≡ length (maximalRuns (counted (now (list .entry)) n)) ⌝ }
-    ensures { λ r. ⌜ now (list .exit) ≡ stored (maximalRuns (counted (now (list .entry)) n)) n (now (list .entry)) ⌝ }
-{
-    sort_pairs(list, n);
-    merge_ascending(list, n)
-}
-
-impl Store {
-    pub fn coalesce(self, list: &mut [u64]) -> CoalesceAnswer
-        ensures { λ r. ⌜ coalesceCase r ≡ coalesceOutcome (now (list .entry)) self ⌝ }
-        ensures { λ _. ⌜ now (list .exit) ≡ coalesceList (now (list .entry)) self ⌝ }
-    {
-        let found = store_checks(self, list);
-        if let Verdict::Refused(r) = found {
-            return CoalesceAnswer::Refused(r);
-        }
-        CoalesceAnswer::Coalesced(coalesce_counted(list, self.count))
-    }
+    CoalesceAnswer::Coalesced(coalesce_counted(list, st.count))
 }

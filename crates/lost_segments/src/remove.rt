@@ -8,8 +8,7 @@ ghost use Rattle.ranges.specs.Without.{without};
 ghost use Rattle.ranges.specs.Store.{counted, capacity, stored, mostNumbers};
 ghost use Rattle.outcomes.specs.Outcome.{accepted, lent};
 ghost use Rattle.outcomes.specs.Checks.{firstOf, verdictCase};
-ghost use Rattle.lost_segments.specs.Remove.{removeCase, removeChecks, removeFrom, removeOutcome, removeList};
-use crate::Store;
+ghost use Rattle.store.specs.Remove.{removeCase, removeChecks, removeFrom, removeOutcome, removeList};
 use outcomes::Refusal;
 use outcomes::Verdict;
 use ranges::inner::checks::check;
@@ -18,12 +17,8 @@ use ranges::inner::cut::cut;
 use ranges::inner::cut::first_past;
 use ranges::inner::pairs::end_at;
 use ranges::inner::pairs::start_at;
-
-pub enum RemoveAnswer {
-    Removed(usize),
-    NotStored,
-    Refused(Refusal),
-}
+use store::Store;
+use store::remove::RemoveAnswer;
 
 // The checks of remove, in order.
 fn remove_checks(st: Store, list: &[u64], a: u64, b: u64) -> Verdict
@@ -84,15 +79,13 @@ fn remove_coalesced(list: &mut [u64], count: usize, a: u64, b: u64) -> RemoveAns
     }
 }
 
-impl Store {
-    pub fn remove(self, list: &mut [u64], a: u64, b: u64) -> RemoveAnswer
-        ensures { λ r. ⌜ removeCase r ≡ removeOutcome (now (list .entry)) self a b ⌝ }
-        ensures { λ _. ⌜ now (list .exit) ≡ removeList (now (list .entry)) self a b ⌝ }
-    {
-        let found = remove_checks(self, list, a, b);
-        if let Verdict::Refused(r) = found {
-            return RemoveAnswer::Refused(r);
-        }
-        remove_coalesced(list, self.count, a, b)
+pub fn remove(st: Store, list: &mut [u64], a: u64, b: u64) -> RemoveAnswer
+    ensures { λ r. ⌜ removeCase r ≡ removeOutcome (now (list .entry)) st a b ⌝ }
+    ensures { λ _. ⌜ now (list .exit) ≡ removeList (now (list .entry)) st a b ⌝ }
+{
+    let found = remove_checks(st, list, a, b);
+    if let Verdict::Refused(r) = found {
+        return RemoveAnswer::Refused(r);
     }
+    remove_coalesced(list, st.count, a, b)
 }

@@ -7,18 +7,14 @@ ghost use lib.ListN.{length, take};
 ghost use Rattle.ranges.specs.Store.{anyAbove};
 ghost use Rattle.outcomes.specs.Outcome.{accepted};
 ghost use Rattle.outcomes.specs.Checks.{firstOf, verdictCase};
-ghost use Rattle.lost_segments.specs.WriteSegmentsToBytes.{writeCase, writeChecks, writeOutcome, writeBuffer};
-use crate::Store;
+ghost use Rattle.store.specs.WriteSegmentsToBytes.{writeCase, writeChecks, writeOutcome, writeBuffer};
 use octets::LargeFileFlag;
 use octets::inner::put_all;
 use outcomes::Refusal;
 use outcomes::Verdict;
 use ranges::inner::checks::any_above;
-
-pub enum WriteAnswer {
-    Written(usize),
-    Refused(Refusal),
-}
+use store::Store;
+use store::write_segments_to_bytes::WriteAnswer;
 
 // 7: whether one of the first `end` numbers, none of them above top, is above the flag's largest.
 fn any_too_large(list: &[u64], end: usize, top: u64, largest: u64) -> bool
@@ -53,23 +49,21 @@ fn write_checks(st: Store, list: &[u64], flag: LargeFileFlag, given: usize) -> V
     Verdict::Passed
 }
 
-impl Store {
-    pub fn write_segments_to_bytes(
-        self,
-        list: &[u64],
-        buf: &mut [u8],
-        flag: LargeFileFlag,
-    ) -> WriteAnswer
-        ensures { λ r. ⌜ writeCase r ≡ writeOutcome (now (list .entry)) self flag (now (buf .entry)) ⌝ }
-        ensures { λ _. ⌜ now (buf .exit) ≡ writeBuffer (now (list .entry)) self flag (now (buf .entry)) ⌝ }
-    {
-        let given = buf.len();
-        let found = write_checks(self, list, flag, given);
-        if let Verdict::Refused(r) = found {
-            return WriteAnswer::Refused(r);
-        }
-        let f = flag.field_length();
-        put_all(buf, 0, f, list, 0, 2 * self.count);
-        WriteAnswer::Written(given)
+pub fn write_segments_to_bytes(
+    st: Store,
+    list: &[u64],
+    buf: &mut [u8],
+    flag: LargeFileFlag,
+) -> WriteAnswer
+    ensures { λ r. ⌜ writeCase r ≡ writeOutcome (now (list .entry)) st flag (now (buf .entry)) ⌝ }
+    ensures { λ _. ⌜ now (buf .exit) ≡ writeBuffer (now (list .entry)) st flag (now (buf .entry)) ⌝ }
+{
+    let given = buf.len();
+    let found = write_checks(st, list, flag, given);
+    if let Verdict::Refused(r) = found {
+        return WriteAnswer::Refused(r);
     }
+    let f = flag.field_length();
+    put_all(buf, 0, f, list, 0, 2 * st.count);
+    WriteAnswer::Written(given)
 }

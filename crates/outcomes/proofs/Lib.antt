@@ -1,3 +1,4 @@
 pub mod Apart
 pub mod Refusals
 pub mod FirstOf
+pub mod Ends

@@ -1,10 +1,10 @@
 // The store's five calls. The list is flat, start and end by turns; `count` pairs of it are counted.
 ghost use mathlib.Core.Path.{_≡_};
-ghost use Rattle.lost_segments.specs.Add.{addOutcome, addList};
-ghost use Rattle.lost_segments.specs.Remove.{removeOutcome, removeList};
-ghost use Rattle.lost_segments.specs.Coalesce.{coalesceOutcome, coalesceList};
-ghost use Rattle.lost_segments.specs.SegmentInStore.{inStoreOutcome};
-ghost use Rattle.lost_segments.specs.WriteSegmentsToBytes.{writeOutcome, writeBuffer};
+ghost use Rattle.store.specs.Add.{addOutcome, addList};
+ghost use Rattle.store.specs.Remove.{removeOutcome, removeList};
+ghost use Rattle.store.specs.Coalesce.{coalesceOutcome, coalesceList};
+ghost use Rattle.store.specs.SegmentInStore.{inStoreOutcome};
+ghost use Rattle.store.specs.WriteSegmentsToBytes.{writeOutcome, writeBuffer};
 ghost use Rattle.c_values.specs.Input.{storeOf, flagIn};
 ghost use Rattle.c_answers.specs.Answer.{answerOf};
 use c_answers::PusmarkeAnswer;
@@ -15,6 +15,11 @@ use c_answers::store::of_remove;
 use c_answers::store::of_write;
 use c_values::inner::flag_in;
 use c_values::inner::store_of;
+use lost_segments::add::add;
+use lost_segments::coalesce::coalesce;
+use lost_segments::remove::remove;
+use lost_segments::segment_in_store::segment_in_store;
+use lost_segments::write_segments_to_bytes::write_segments_to_bytes;
 
 #[no_mangle]
 pub extern "C" fn pusmarke_add(
@@ -28,7 +33,7 @@ pub extern "C" fn pusmarke_add(
     ensures { λ _. ⌜ now (list .exit) ≡ addList (now (list .entry)) (storeOf count narrow) start end ⌝ }
 {
     let store = store_of(count, narrow);
-    of_add(store.add(list, start, end))
+    of_add(add(store, list, start, end))
 }
 
 #[no_mangle]
@@ -43,7 +48,7 @@ pub extern "C" fn pusmarke_remove(
     ensures { λ _. ⌜ now (list .exit) ≡ removeList (now (list .entry)) (storeOf count narrow) start end ⌝ }
 {
     let store = store_of(count, narrow);
-    of_remove(store.remove(list, start, end))
+    of_remove(remove(store, list, start, end))
 }
 
 #[no_mangle]
@@ -52,7 +57,7 @@ pub extern "C" fn pusmarke_coalesce(list: &mut [u64], count: usize, narrow: u64)
     ensures { λ _. ⌜ now (list .exit) ≡ coalesceList (now (list .entry)) (storeOf count narrow) ⌝ }
 {
     let store = store_of(count, narrow);
-    of_coalesce(store.coalesce(list))
+    of_coalesce(coalesce(store, list))
 }
 
 #[no_mangle]
@@ -66,7 +71,7 @@ pub extern "C" fn pusmarke_segment_in_store(
     ensures { λ r. ⌜ r ≡ answerOf (inStoreOutcome (now (list .entry)) (storeOf count narrow) start end) ⌝ }
 {
     let store = store_of(count, narrow);
-    of_in_store(store.segment_in_store(list, start, end))
+    of_in_store(segment_in_store(store, list, start, end))
 }
 
 #[no_mangle]
@@ -82,5 +87,5 @@ pub extern "C" fn pusmarke_write_segments_to_bytes(
 {
     let store = store_of(count, narrow);
     let flag = flag_in(large);
-    of_write(store.write_segments_to_bytes(list, buf, flag))
+    of_write(write_segments_to_bytes(store, list, buf, flag))
 }

@@ -4,8 +4,8 @@ use crate::inner::state;
 use crate::inner::state::State;
 use console_text::inner::part;
 use console_text::inner::print;
-use lost_segments::Store;
 use octets::LargeFileFlag;
+use store::Store;
 
 fn store_of(s: State) -> Store {
     let rec = s.rec;
@@ -25,7 +25,12 @@ fn changed(s: State, out: &mut [u8; 65536], word: &[u8], count: u64) -> State {
 
 pub fn add(s: State, memory: &mut [u64], start: u64, end: u64, out: &mut [u8; 65536]) -> State {
     let lent = part::first_numbers(memory, s.length);
-    let a = c_answers::store::of_add(store_of(s).add(&mut memory[..lent], start, end));
+    let a = c_answers::store::of_add(lost_segments::add::add(
+        store_of(s),
+        &mut memory[..lent],
+        start,
+        end,
+    ));
     if a.refusal != 0 {
         return answers::show_refusal(s, a, out);
     }
@@ -34,7 +39,12 @@ pub fn add(s: State, memory: &mut [u64], start: u64, end: u64, out: &mut [u8; 65
 
 pub fn remove(s: State, memory: &mut [u64], start: u64, end: u64, out: &mut [u8; 65536]) -> State {
     let lent = part::first_numbers(memory, s.length);
-    let a = c_answers::store::of_remove(store_of(s).remove(&mut memory[..lent], start, end));
+    let a = c_answers::store::of_remove(lost_segments::remove::remove(
+        store_of(s),
+        &mut memory[..lent],
+        start,
+        end,
+    ));
     if a.refusal != 0 {
         return answers::show_refusal(s, a, out);
     }
@@ -47,7 +57,10 @@ pub fn remove(s: State, memory: &mut [u64], start: u64, end: u64, out: &mut [u8;
 
 pub fn coalesce(s: State, memory: &mut [u64], out: &mut [u8; 65536]) -> State {
     let lent = part::first_numbers(memory, s.length);
-    let a = c_answers::store::of_coalesce(store_of(s).coalesce(&mut memory[..lent]));
+    let a = c_answers::store::of_coalesce(lost_segments::coalesce::coalesce(
+        store_of(s),
+        &mut memory[..lent],
+    ));
     if a.refusal != 0 {
         return answers::show_refusal(s, a, out);
     }
@@ -56,7 +69,8 @@ pub fn coalesce(s: State, memory: &mut [u64], out: &mut [u8; 65536]) -> State {
 
 pub fn within(s: State, memory: &[u64], start: u64, end: u64, out: &mut [u8; 65536]) -> State {
     let lent = part::first_numbers(memory, s.length);
-    let a = c_answers::store::of_in_store(store_of(s).segment_in_store(
+    let a = c_answers::store::of_in_store(lost_segments::segment_in_store::segment_in_store(
+        store_of(s),
         &memory[..lent],
         start,
         end,
@@ -88,11 +102,13 @@ pub fn octets(
 ) -> State {
     let lent = part::first_numbers(memory, s.length);
     let n = part::first_octets(buf, length as usize);
-    let a = c_answers::store::of_write(store_of(s).write_segments_to_bytes(
-        &memory[..lent],
-        &mut buf[..n],
-        flag_of(large),
-    ));
+    let a =
+        c_answers::store::of_write(lost_segments::write_segments_to_bytes::write_segments_to_bytes(
+            store_of(s),
+            &memory[..lent],
+            &mut buf[..n],
+            flag_of(large),
+        ));
     if a.refusal != 0 {
         return answers::show_refusal(s, a, out);
     }

@@ -18,7 +18,7 @@ use Rattle.ranges.proofs.Flat.{at, getD-counted, length-counted}
 use Rattle.ranges.proofs.Stored.{stored-same}
 use Rattle.ranges.proofs.Without.{without-none, place-at}
 use Rattle.ranges.proofs.Cutting.{cut-told, full-told}
-use Rattle.lost_segments.specs.Remove.{removeFrom}
+use Rattle.store.specs.Remove.{removeFrom}
 use Rattle.lost_segments.proofs.remove.Found.{found-inside, found-shares, found-behind}
 
 module _ (xs : List ℕ) (n a b i : ℕ) (h : 2 * n ≤ length xs) (lt : a < b) (s : Coalesced (counted xs n)) (e : i ≡ first a (counted xs n)) where

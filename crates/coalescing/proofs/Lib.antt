@@ -1,0 +1,4 @@
+pub mod JoinLast
+pub mod MergedSoFar
+pub mod MergeLoop
+pub mod Reordered

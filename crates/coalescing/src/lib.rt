@@ -1,0 +1,2 @@
+// Coalescing counted pairs: a sort where they lie, and one pass.
+pub mod inner;

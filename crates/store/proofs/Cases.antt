@@ -1,0 +1,61 @@
+-- No two answers of a call have one outcome, so each call's statement allows one answer.
+use native.Mathlib.Omega.{arith}
+use mathlib.Core.Path.{_≡_, refl, sym, ap}
+use Prim.Native.Nat.{ℕ}
+use Rattle.outcomes.specs.declared.Refusal.{Refusal}
+use Rattle.outcomes.proofs.Refusals.{value, one-refusal, no-refusal}
+use Rattle.store.specs.Add.{addCase}
+use Rattle.store.specs.Remove.{removeCase}
+use Rattle.store.specs.Coalesce.{coalesceCase}
+use Rattle.store.specs.SegmentInStore.{inStoreCase}
+use Rattle.store.specs.WriteSegmentsToBytes.{writeCase}
+use Rattle.store.specs.declared.add.AddAnswer.{AddAnswer}
+use Rattle.store.specs.declared.add.AddAnswer.the-variants as add
+use Rattle.store.specs.declared.remove.RemoveAnswer.{RemoveAnswer}
+use Rattle.store.specs.declared.remove.RemoveAnswer.the-variants as remove
+use Rattle.store.specs.declared.coalesce.CoalesceAnswer.{CoalesceAnswer}
+use Rattle.store.specs.declared.coalesce.CoalesceAnswer.the-variants as coalesce
+use Rattle.store.specs.declared.segment_in_store.InStoreAnswer.{InStoreAnswer}
+use Rattle.store.specs.declared.segment_in_store.InStoreAnswer.the-variants as inStore
+use Rattle.store.specs.declared.write_segments_to_bytes.WriteAnswer.{WriteAnswer}
+use Rattle.store.specs.declared.write_segments_to_bytes.WriteAnswer.the-variants as write
+
+pub one-add : (r s : AddAnswer) → addCase r ≡ addCase s → r ≡ s
+one-add (add.Added m) (add.Added n) e = ap (λ (k : ℕ). add.Added k) (ap (value 0) e)
+one-add (add.Added m) (add.Refused s) e = absurd (no-refusal s (sym e))
+one-add (add.Refused r) (add.Added n) e = absurd (no-refusal r e)
+one-add (add.Refused r) (add.Refused s) e = ap (λ (q : Refusal). add.Refused q) (one-refusal r s e)
+
+pub one-remove : (r s : RemoveAnswer) → removeCase r ≡ removeCase s → r ≡ s
+one-remove (remove.Removed m) (remove.Removed n) e = ap (λ (k : ℕ). remove.Removed k) (ap (value 1) e)
+one-remove (remove.Removed m) remove.NotStored e = let k : _≡_ {A = ℕ} 1 0 = ap (value 0) e in absurd (omega arith)
+one-remove (remove.Removed m) (remove.Refused s) e = absurd (no-refusal s (sym e))
+one-remove remove.NotStored (remove.Removed n) e = let k : _≡_ {A = ℕ} 0 1 = ap (value 0) e in absurd (omega arith)
+one-remove remove.NotStored remove.NotStored e = refl
+one-remove remove.NotStored (remove.Refused s) e = absurd (no-refusal s (sym e))
+one-remove (remove.Refused r) (remove.Removed n) e = absurd (no-refusal r e)
+one-remove (remove.Refused r) remove.NotStored e = absurd (no-refusal r e)
+one-remove (remove.Refused r) (remove.Refused s) e = ap (λ (q : Refusal). remove.Refused q) (one-refusal r s e)
+
+pub one-coalesce : (r s : CoalesceAnswer) → coalesceCase r ≡ coalesceCase s → r ≡ s
+one-coalesce (coalesce.Coalesced m) (coalesce.Coalesced n) e = ap (λ (k : ℕ). coalesce.Coalesced k) (ap (value 0) e)
+one-coalesce (coalesce.Coalesced m) (coalesce.Refused s) e = absurd (no-refusal s (sym e))
+one-coalesce (coalesce.Refused r) (coalesce.Coalesced n) e = absurd (no-refusal r e)
+one-coalesce (coalesce.Refused r) (coalesce.Refused s) e = ap (λ (q : Refusal). coalesce.Refused q) (one-refusal r s e)
+
+pub one-in-store : (r s : InStoreAnswer) → inStoreCase r ≡ inStoreCase s → r ≡ s
+one-in-store inStore.Yes inStore.Yes e = refl
+one-in-store inStore.Yes inStore.No e = let k : _≡_ {A = ℕ} 1 0 = ap (value 0) e in absurd (omega arith)
+one-in-store inStore.Yes (inStore.Refused s) e = absurd (no-refusal s (sym e))
+one-in-store inStore.No inStore.Yes e = let k : _≡_ {A = ℕ} 0 1 = ap (value 0) e in absurd (omega arith)
+one-in-store inStore.No inStore.No e = refl
+one-in-store inStore.No (inStore.Refused s) e = absurd (no-refusal s (sym e))
+one-in-store (inStore.Refused r) inStore.Yes e = absurd (no-refusal r e)
+one-in-store (inStore.Refused r) inStore.No e = absurd (no-refusal r e)
+one-in-store (inStore.Refused r) (inStore.Refused s) e = ap (λ (q : Refusal). inStore.Refused q) (one-refusal r s e)
+
+pub one-write : (r s : WriteAnswer) → writeCase r ≡ writeCase s → r ≡ s
+one-write (write.Written m) (write.Written n) e = ap (λ (k : ℕ). write.Written k) (ap (value 0) e)
+one-write (write.Written m) (write.Refused s) e = absurd (no-refusal s (sym e))
+one-write (write.Refused r) (write.Written n) e = absurd (no-refusal r e)
+one-write (write.Refused r) (write.Refused s) e = ap (λ (q : Refusal). write.Refused q) (one-refusal r s e)

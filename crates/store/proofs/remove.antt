@@ -1,0 +1,2 @@
+pub mod Split
+pub mod Meaning

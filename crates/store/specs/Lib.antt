@@ -1,0 +1,7 @@
+pub mod Checks
+pub mod Add
+pub mod Remove
+pub mod Coalesce
+pub mod SegmentInStore
+pub mod WriteSegmentsToBytes
+pub mod Slots

@@ -1,0 +1,7 @@
+// What add answers.
+use outcomes::Refusal;
+
+pub enum AddAnswer {
+    Added(usize),
+    Refused(Refusal),
+}
