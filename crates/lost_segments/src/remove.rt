@@ -1,6 +1,6 @@
 // remove: the offsets of a range leave a coalesced list.
 ghost use mathlib.Core.Path.{_≡_};
-ghost use mathlib.Core.List.{[]};
+ghost use mathlib.Core.List.{[], _∷_};
 ghost use Prim.Native.Nat.{_*_, _<_, _≤_};
 ghost use lib.ListN.{length};
 ghost use Rattle.ranges.specs.Range.{Coalesced};
@@ -8,10 +8,12 @@ ghost use Rattle.ranges.specs.Without.{without};
 ghost use Rattle.ranges.specs.Store.{counted, capacity, stored, mostNumbers};
 ghost use Rattle.outcomes.specs.Outcome.{accepted, lent};
 ghost use Rattle.outcomes.specs.Checks.{firstOf, verdictCase};
+ghost use Rattle.lost_segments.specs.Inner.{partNumber};
 ghost use Rattle.store.specs.Remove.{removeCase, removeChecks, removeFrom, removeOutcome, removeList};
 use outcomes::Refusal;
 use outcomes::Verdict;
 use ranges::inner::checks::check;
+use ranges::inner::cut::Part;
 use ranges::inner::cut::Remains;
 use ranges::inner::cut::cut;
 use ranges::inner::cut::first_past;
@@ -48,6 +50,18 @@ fn remove_checks(st: Store, list: &[u64], a: u64, b: u64) -> Verdict
     Verdict::Passed
 }
 
+// The answer where a part of the range at place i left, with m ranges afterwards.
+fn removed(part: Part, i: usize, m: usize) -> RemoveAnswer
+    ensures { λ r. ⌜ removeCase r ≡ accepted (partNumber part ∷ i ∷ m ∷ []) ⌝ }
+{
+    match part {
+        Part::Whole => RemoveAnswer::Whole(i, m),
+        Part::Left => RemoveAnswer::Left(i, m),
+        Part::Right => RemoveAnswer::Right(i, m),
+        Part::Split => RemoveAnswer::Split(i, m),
+    }
+}
+
 // On a coalesced list: the first range that ends above a is the only one that (a, b) can lie inside.
 fn remove_coalesced(list: &mut [u64], count: usize, a: u64, b: u64) -> RemoveAnswer
     requires { ⌜ (2 * count ≤ length (now list)) × ((length (now list) ≤ mostNumbers) × (a < b)) ⌝ }
@@ -57,12 +71,12 @@ fn remove_coalesced(list: &mut [u64], count: usize, a: u64, b: u64) -> RemoveAns
 {
     let i = first_past(list, count, a);
     if i == count {
-        return RemoveAnswer::NotStored;
+        return RemoveAnswer::NotStored(count);
     }
     let s = start_at(list, i);
     let e = end_at(list, i);
     if b <= s {
-        return RemoveAnswer::NotStored;
+        return RemoveAnswer::NotStored(count);
     }
     if a < s {
         return RemoveAnswer::Refused(Refusal::InvalidSegmentBoundary(a, b));
@@ -73,8 +87,9 @@ fn remove_coalesced(list: &mut [u64], count: usize, a: u64, b: u64) -> RemoveAns
     let room = list.len() / 2;
     let done = cut(list, count, i, i + 1, a, b, room);
     let left = done.remains;
+    let part = done.part;
     match left {
-        Remains::Left(m) => RemoveAnswer::Removed(m),
+        Remains::Left(m) => removed(part, i, m),
         Remains::Full => RemoveAnswer::Refused(Refusal::StoreFull),
     }
 }

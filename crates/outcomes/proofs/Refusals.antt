@@ -5,6 +5,7 @@ use mathlib.Core.List.{List}
 use Prim.Native.Nat.{ℕ}
 use lib.Dec.{eqb}
 use lib.ListN.{getD}
+use borrow.Author.Tests.{ne-eqb}
 use Rattle.outcomes.specs.Outcome.{Outcome, accepted, lent}
 use Rattle.outcomes.specs.Refusal.{refusing}
 use Rattle.outcomes.specs.declared.Refusal.{Refusal}
@@ -39,7 +40,7 @@ refusalBack o =
     (cond (eqb (o .number) 19) refusal.AlreadyKnown
     refusal.BudgetTooLarge)))))))))))))))))))
 
-refusal-back : (r : Refusal) → refusalBack (refusing r) ≡ r
+pub refusal-back : (r : Refusal) → refusalBack (refusing r) ≡ r
 refusal-back refusal.StoreFull = refl
 refusal-back refusal.EmptySegment = refl
 refusal-back (refusal.StartLargerThanEnd a b) = refl
@@ -91,3 +92,7 @@ no-refusal r e = true≢false (ap (λ (o : Outcome). eqb (o .number) 0) (sym e) 
 
 pub lent-refused : {A : Type 0} (r : Refusal) (new old : A) → lent (refusing r) new old ≡ old
 lent-refused r new old = rw (refuses r)
+
+-- the same of any outcome that is not accepted
+pub lent-old : {A : Type 0} (o : Outcome) (new old : A) → (o .number ≡ 0 → ⊥) → lent o new old ≡ old
+lent-old o new old n = rw (ne-eqb (o .number) 0 n)

@@ -1,9 +1,13 @@
 -- No two answers of a call have one outcome, so each call's statement allows one answer.
 use native.Mathlib.Omega.{arith}
 use mathlib.Core.Path.{_≡_, refl, sym, ap}
+use mathlib.Core.Bool.{cond}
 use Prim.Native.Nat.{ℕ}
+use lib.Dec.{eqb}
+use Rattle.outcomes.specs.Outcome.{Outcome}
 use Rattle.outcomes.specs.declared.Refusal.{Refusal}
-use Rattle.outcomes.proofs.Refusals.{value, one-refusal, no-refusal}
+use Rattle.outcomes.proofs.Refusals.{value, refusalBack, refusal-back, refuses, one-refusal, no-refusal}
+use Rattle.outcomes.proofs.Apart.{apart}
 use Rattle.store.specs.Add.{addCase}
 use Rattle.store.specs.Remove.{removeCase}
 use Rattle.store.specs.Coalesce.{coalesceCase}
@@ -26,16 +30,27 @@ one-add (add.Added m) (add.Refused s) e = absurd (no-refusal s (sym e))
 one-add (add.Refused r) (add.Added n) e = absurd (no-refusal r e)
 one-add (add.Refused r) (add.Refused s) e = ap (λ (q : Refusal). add.Refused q) (one-refusal r s e)
 
+-- what left, its index and the count, or the refusal
+abbrev removeBack : Outcome → RemoveAnswer
+removeBack o =
+    cond (eqb (o .number) 0)
+    (cond (eqb (value 0 o) 0) (remove.NotStored (value 2 o))
+    (cond (eqb (value 0 o) 1) (remove.Whole (value 1 o) (value 2 o))
+    (cond (eqb (value 0 o) 2) (remove.Left (value 1 o) (value 2 o))
+    (cond (eqb (value 0 o) 3) (remove.Right (value 1 o) (value 2 o))
+    (remove.Split (value 1 o) (value 2 o))))))
+    (remove.Refused (refusalBack o))
+
+remove-back : (r : RemoveAnswer) → removeBack (removeCase r) ≡ r
+remove-back (remove.Whole i m) = refl
+remove-back (remove.Left i m) = refl
+remove-back (remove.Right i m) = refl
+remove-back (remove.Split i m) = refl
+remove-back (remove.NotStored m) = refl
+remove-back (remove.Refused r) = rw (refuses r) (ap (λ (q : Refusal). remove.Refused q) (refusal-back r))
+
 pub one-remove : (r s : RemoveAnswer) → removeCase r ≡ removeCase s → r ≡ s
-one-remove (remove.Removed m) (remove.Removed n) e = ap (λ (k : ℕ). remove.Removed k) (ap (value 1) e)
-one-remove (remove.Removed m) remove.NotStored e = let k : _≡_ {A = ℕ} 1 0 = ap (value 0) e in absurd (omega arith)
-one-remove (remove.Removed m) (remove.Refused s) e = absurd (no-refusal s (sym e))
-one-remove remove.NotStored (remove.Removed n) e = let k : _≡_ {A = ℕ} 0 1 = ap (value 0) e in absurd (omega arith)
-one-remove remove.NotStored remove.NotStored e = refl
-one-remove remove.NotStored (remove.Refused s) e = absurd (no-refusal s (sym e))
-one-remove (remove.Refused r) (remove.Removed n) e = absurd (no-refusal r e)
-one-remove (remove.Refused r) remove.NotStored e = absurd (no-refusal r e)
-one-remove (remove.Refused r) (remove.Refused s) e = ap (λ (q : Refusal). remove.Refused q) (one-refusal r s e)
+one-remove = apart removeCase removeBack remove-back
 
 pub one-coalesce : (r s : CoalesceAnswer) → coalesceCase r ≡ coalesceCase s → r ≡ s
 one-coalesce (coalesce.Coalesced m) (coalesce.Coalesced n) e = ap (λ (k : ℕ). coalesce.Coalesced k) (ap (value 0) e)

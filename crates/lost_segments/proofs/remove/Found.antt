@@ -7,8 +7,8 @@ use native.Mathlib.Omega.{arith}
 use lib.ListN.{length, getD}
 use lib.Dec.{leb, ltb, leb·zero}
 use borrow.Author.Tests.{lt-ltb, le-ltb, le-leb, lt-leb, ltb-true, ltb-false}
-use Rattle.ranges.specs.Range.{Range, range, Above, some, inside, shares}
-use Rattle.ranges.specs.Inner.Cut.{place, past, from, first, behind}
+use Rattle.ranges.specs.Range.{Range, range, Above, some, inside, shares, place}
+use Rattle.ranges.specs.Inner.Cut.{past, from, first, behind}
 use Rattle.ranges.proofs.Test.{or-none, and-none}
 
 module _ (a b : ℕ) (lt : a < b) where

@@ -13,6 +13,7 @@ use Rattle.ranges.specs.Store.{counted, capacity, limitOf, eitherAbove, stored}
 use Rattle.outcomes.specs.Outcome.{Outcome, accepted, lent}
 use Rattle.outcomes.specs.Checks.{NoneOf}
 use Rattle.outcomes.proofs.FirstOf.{first-none, first-accepted}
+use Rattle.outcomes.proofs.Refusals.{lent-old}
 use Rattle.ranges.proofs.Test.{or-false}
 use Rattle.ranges.proofs.Good.{good}
 use Rattle.ranges.proofs.Flat.{length-counted}
@@ -89,3 +90,7 @@ module _ (xs : List ℕ) (st : Store) (s e : ℕ) where
         λ h. ⊎-elim (λ g. inl g) (λ g. inr (⊎-elim (λ u. u) absurd g)) (covers-append x old (range s e ∷ []) h),
         λ h. append-covers x old (range s e ∷ []) (⊎-elim (λ g. inl g) (λ g. inr (inl g)) h),
       )
+
+  -- under a refusal the list stays as it was
+  pub add-refused : (addOutcome xs st s e .number ≡ 0 → ⊥) → addList xs st s e ≡ xs
+  add-refused n = lent-old (addOutcome xs st s e) (stored more (st .count) xs) xs n

@@ -14,6 +14,7 @@ use Rattle.ranges.proofs.Insert.{join-above, join-covers}
 use Rattle.ranges.proofs.Runs.{runs-of}
 use Rattle.ranges.specs.Store.{counted, limitOf, isBadStore, stored}
 use Rattle.outcomes.specs.Outcome.{Outcome, accepted}
+use Rattle.outcomes.proofs.Refusals.{lent-old}
 use Rattle.ranges.proofs.Stored.{counted-stored}
 use Rattle.store.specs.declared.Store.{Store}
 use Rattle.store.specs.Slots.{Slots}
@@ -78,3 +79,7 @@ module _ (xs : List ℕ) (st : Store) where
 
   pub coalesce-slots : (m : ℕ) → coalesceOutcome xs st ≡ accepted (m ∷ []) → Slots xs (st .count) (coalesceList xs st) m
   coalesce-slots m f = let w = after m f in rw (w .0, w .1) (stored-slots runs (st .count) xs)
+
+  -- under a refusal the list stays as it was
+  pub coalesce-refused : (coalesceOutcome xs st .number ≡ 0 → ⊥) → coalesceList xs st ≡ xs
+  coalesce-refused n = lent-old (coalesceOutcome xs st) (stored runs (st .count) xs) xs n

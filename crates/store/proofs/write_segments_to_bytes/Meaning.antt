@@ -9,10 +9,13 @@ use native.Mathlib.Omega.{arith}
 use lib.ListN.{length, getD, take, drop}
 use lib.Dec.{eqb}
 use lib.Seq.{take-at, drop-at}
-use borrow.Author.Tests.{eq-eqb, eqb-true, ltb-false, not-false}
+use borrow.Author.Tests.{eq-eqb, ne-eqb, eqb-true, ltb-false, not-false}
 use Rattle.ranges.specs.Store.{limitOf, isBadStore, anyAbove}
 use Rattle.outcomes.specs.Outcome.{Outcome, accepted, lent}
+use Rattle.outcomes.specs.Refusal.{refusing}
+use Rattle.outcomes.specs.declared.Refusal.the-variants as refusal
 use Rattle.outcomes.proofs.FirstOf.{first-none, first-accepted}
+use Rattle.outcomes.proofs.Refusals.{lent-old}
 use Rattle.ranges.proofs.Test.{or-false}
 use Rattle.ranges.proofs.Good.{good}
 use Rattle.octets.specs.declared.LargeFileFlag.{LargeFileFlag}
@@ -72,3 +75,12 @@ module _ (xs : List ℕ) (st : Store) (flag : LargeFileFlag) (buf : List ℕ) wh
       let w = write-accepted m .0 h in
       let g = good xs (st .count) (limitOf (st .width)) (w .0) in
       ap length (write-octets m h) ∙ length-octets (fieldLength flag) (st .count) xs (g .room) ∙ sym (w .3)
+
+  -- a buffer of another length is 6, whatever the numbers are
+  pub write-mismatch : isBadStore xs (st .count) (limitOf (st .width)) ≡ false → (length buf ≡ writeLength st flag → ⊥)
+      → writeOutcome xs st flag buf ≡ refusing (refusal.BufferSizeMissmatch (writeLength st flag) (length buf))
+  write-mismatch e n = rw (e, ne-eqb (length buf) (writeLength st flag) n)
+
+  -- under a refusal the buffer stays as it was
+  pub write-refused : (writeOutcome xs st flag buf .number ≡ 0 → ⊥) → writeBuffer xs st flag buf ≡ buf
+  write-refused n = lent-old (writeOutcome xs st flag buf) (fields (fieldLength flag) (take (2 * st .count) xs)) buf n

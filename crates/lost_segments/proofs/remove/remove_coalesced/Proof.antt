@@ -1,7 +1,7 @@
 -- `remove_coalesced` meets its contract: the first range that ends above a decides.
 use native.Mathlib.Omega.{arith}
 use Prim.Native.Nat.{ℕ, _*_, _≤_, _<_}
-use mathlib.Core.Path.{_≡_, refl, sym, _∙_}
+use mathlib.Core.Path.{_≡_, refl, sym, ap, _∙_}
 use mathlib.Core.List.{List}
 use lib.ListN.{length}
 use borrow.Author.Needs.{needs}
@@ -9,7 +9,7 @@ use borrow.Author.Tests.{lt-leb, le-leb}
 use Rattle.ranges.specs.Range.{Coalesced}
 use Rattle.ranges.specs.Store.{counted, capacity, startAt, endAt}
 use Rattle.ranges.specs.Without.{without}
-use Rattle.ranges.specs.Inner.Cut.{first, cutAnswer, cutList}
+use Rattle.ranges.specs.Inner.Cut.{first, goneOf, cutAnswer, cutList}
 use Rattle.lost_segments.proofs.remove.Answers.{past-all, before-it, boundary, behind-it, inside-room, inside-full}
 use Rattle.lost_segments.proofs.remove.remove_coalesced.Statement.{statement}
 use Rattle.lost_segments.proofs.remove.remove_coalesced.Tie as tie
@@ -81,6 +81,11 @@ remains c = c .cut .ensures .0
 list : (c : tie.After-cut) → let b = from4 (fromC c) in c .cut .last .0 ≡ cutList (capacity (xs b)) (without (from b) (to b) (counted (xs b) (n b))) (n b) (xs b)
 list c = c .cut .ensures .1 .1
 
+gone : (c : tie.After-cut) → let b = from4 (fromC c) in c .cut .result .part ≡ goneOf (from b) (to b) (startAt (xs b) (i b)) (endAt (xs b) (i b))
+gone c =
+    let b = from4 (fromC c) in
+    c .cut .ensures .1 .0 ∙ ap (λ (k : ℕ). goneOf (from b) (to b) (startAt (xs b) (i b)) (endAt (xs b) k)) (omega arith)
+
 first-past-requires : tie.Need-first-past-requires
 first-past-requires c κs = search needs
 
@@ -143,6 +148,9 @@ cut-requires c κs =
 enum-known-left : tie.Need-enum-known-left
 enum-known-left c = search needs
 
+removed-requires : tie.Need-removed-requires
+removed-requires c κs = search needs
+
 enum-told : tie.Need-enum-told
 enum-told c = search needs
 
@@ -151,11 +159,13 @@ same-length-5 c = search needs
 
 returns-5 : tie.Need-returns-5
 returns-5 c =
-    let d = c .before .before .before .before .before in
+    let d = c .before .before .before .before .before .before in
     let g = fromC d in
     let b = from4 g in
-    inside-room (xs b) (n b) (from b) (to b) (i b) (rooms b) (ordered b) (whole b) (found b) (here (g .before .before .before)) (holds-start g) (holds-end g) _ _
-    (sym (c .before .left .given .1) ∙ remains d) (list d)
+    let w =
+    inside-room (xs b) (n b) (from b) (to b) (i b) (rooms b) (ordered b) (whole b) (found b) (here (g .before .before .before)) (holds-start g) (holds-end g) _ _ _
+    (sym (c .before .before .left .given .1) ∙ remains d) (gone d) (list d) in
+    (c .removed .ensures ∙ w .0, rw (c .removed .ensures) (w .1))
 
 same-length-6 : tie.Need-same-length-6
 same-length-6 c = search needs
@@ -186,6 +196,7 @@ remove-coalesced-spec =
     add-cut
     cut-requires
     enum-known-left
+    removed-requires
     enum-told
     same-length-5
     returns-5
