@@ -9,7 +9,7 @@ ghost use Rattle.c_answers.specs.Answer.{answerOf};
 use crate::PusmarkeAnswer;
 use crate::inner::wide;
 use crate::inner::with_one;
-use crate::inner::with_two;
+use crate::inner::with_three;
 use crate::refusal::of_refusal;
 use store::add::AddAnswer;
 use store::coalesce::CoalesceAnswer;
@@ -30,8 +30,11 @@ pub fn of_remove(a: RemoveAnswer) -> PusmarkeAnswer
     ensures { λ r. ⌜ r ≡ answerOf (removeCase a) ⌝ }
 {
     match a {
-        RemoveAnswer::Removed(count) => with_two(0, 1, wide(count)),
-        RemoveAnswer::NotStored => with_one(0, 0),
+        RemoveAnswer::Whole(index, count) => with_three(0, 1, wide(index), wide(count)),
+        RemoveAnswer::Left(index, count) => with_three(0, 2, wide(index), wide(count)),
+        RemoveAnswer::Right(index, count) => with_three(0, 3, wide(index), wide(count)),
+        RemoveAnswer::Split(index, count) => with_three(0, 4, wide(index), wide(count)),
+        RemoveAnswer::NotStored(count) => with_three(0, 0, 0, wide(count)),
         RemoveAnswer::Refused(r) => of_refusal(r),
     }
 }

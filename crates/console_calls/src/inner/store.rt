@@ -16,11 +16,16 @@ fn store_of(s: State) -> Store {
     }
 }
 
+// The end of an accepted change: the new count.
+fn counted(s: State, out: &mut [u8; 65536], at: usize, count: u64) -> State {
+    let end = print::number(out, at, count);
+    state::answered(state::with_count(s, count as usize), out, end)
+}
+
 // An accepted change: a word and the new count.
 fn changed(s: State, out: &mut [u8; 65536], word: &[u8], count: u64) -> State {
     let at = print::text(out, s.at, word);
-    let end = print::number(out, at, count);
-    state::answered(state::with_count(s, count as usize), out, end)
+    counted(s, out, at, count)
 }
 
 pub fn add(s: State, memory: &mut [u64], start: u64, end: u64, out: &mut [u8; 65536]) -> State {
@@ -37,6 +42,17 @@ pub fn add(s: State, memory: &mut [u64], start: u64, end: u64, out: &mut [u8; 65
     changed(s, out, b"added", a.first)
 }
 
+// What a removal did, by its number.
+fn removed_word(out: &mut [u8; 65536], at: usize, what: u64) -> usize {
+    match what {
+        0 => print::text(out, at, b"removed none"),
+        1 => print::text(out, at, b"removed whole"),
+        2 => print::text(out, at, b"removed left"),
+        3 => print::text(out, at, b"removed right"),
+        _ => print::text(out, at, b"removed split"),
+    }
+}
+
 pub fn remove(s: State, memory: &mut [u64], start: u64, end: u64, out: &mut [u8; 65536]) -> State {
     let lent = part::first_numbers(memory, s.length);
     let a = c_answers::store::of_remove(lost_segments::remove::remove(
@@ -48,11 +64,12 @@ pub fn remove(s: State, memory: &mut [u64], start: u64, end: u64, out: &mut [u8;
     if a.refusal != 0 {
         return answers::show_refusal(s, a, out);
     }
+    let at = removed_word(out, s.at, a.first);
     if a.first == 0 {
-        let rec = s.rec;
-        return changed(s, out, b"removed false", rec.count as u64);
+        return counted(s, out, at, a.third);
     }
-    changed(s, out, b"removed true", a.second)
+    let end = print::number(out, at, a.second);
+    counted(s, out, end, a.third)
 }
 
 pub fn coalesce(s: State, memory: &mut [u64], out: &mut [u8; 65536]) -> State {
