@@ -2,6 +2,7 @@
 ghost use mathlib.Core.Path.{_≡_};
 ghost use Rattle.outcomes.specs.Refusal.{refusing};
 ghost use Rattle.c_answers.specs.Answer.{answerOf};
+ghost use Rattle.c_answers.specs.Refusal.{Carries};
 use crate::PusmarkeAnswer;
 use crate::inner::bare;
 use crate::inner::wide;
@@ -32,5 +33,17 @@ pub fn of_refusal(r: Refusal) -> PusmarkeAnswer
         Refusal::ScopeReversed => bare(18),
         Refusal::AlreadyKnown => bare(19),
         Refusal::BudgetTooLarge => bare(20),
+    }
+}
+
+// How many values a refusal of this number carries: who shows an answer shows so many.
+pub fn carried(number: u64) -> usize
+    ensures { λ n. ⌜ Carries number n ⌝ }
+{
+    match number {
+        3 => 2,
+        5 => 2,
+        6 => 2,
+        _ => 0,
     }
 }
