@@ -1,5 +1,5 @@
 // The store's calls.
-use crate::inner::answers;
+use crate::inner::refusals;
 use crate::inner::state;
 use crate::inner::state::State;
 use console_text::inner::part;
@@ -25,18 +25,18 @@ fn changed(s: State, out: &mut [u8; 65536], word: &[u8], count: u64) -> State {
 
 pub fn add(s: State, memory: &mut [u64], start: u64, end: u64, out: &mut [u8; 65536]) -> State {
     let lent = part::first_numbers(memory, s.length);
-    let a = c_answers::store::of_add(store_of(s).add(&mut memory[..lent], start, end));
+    let a = answers::store::of_add(store_of(s).add(&mut memory[..lent], start, end));
     if a.refusal != 0 {
-        return answers::show_refusal(s, a, out);
+        return refusals::show_refusal(s, a, out);
     }
     changed(s, out, b"added", a.first)
 }
 
 pub fn remove(s: State, memory: &mut [u64], start: u64, end: u64, out: &mut [u8; 65536]) -> State {
     let lent = part::first_numbers(memory, s.length);
-    let a = c_answers::store::of_remove(store_of(s).remove(&mut memory[..lent], start, end));
+    let a = answers::store::of_remove(store_of(s).remove(&mut memory[..lent], start, end));
     if a.refusal != 0 {
-        return answers::show_refusal(s, a, out);
+        return refusals::show_refusal(s, a, out);
     }
     if a.first == 0 {
         let rec = s.rec;
@@ -47,22 +47,18 @@ pub fn remove(s: State, memory: &mut [u64], start: u64, end: u64, out: &mut [u8;
 
 pub fn coalesce(s: State, memory: &mut [u64], out: &mut [u8; 65536]) -> State {
     let lent = part::first_numbers(memory, s.length);
-    let a = c_answers::store::of_coalesce(store_of(s).coalesce(&mut memory[..lent]));
+    let a = answers::store::of_coalesce(store_of(s).coalesce(&mut memory[..lent]));
     if a.refusal != 0 {
-        return answers::show_refusal(s, a, out);
+        return refusals::show_refusal(s, a, out);
     }
     changed(s, out, b"coalesced", a.first)
 }
 
 pub fn within(s: State, memory: &[u64], start: u64, end: u64, out: &mut [u8; 65536]) -> State {
     let lent = part::first_numbers(memory, s.length);
-    let a = c_answers::store::of_in_store(store_of(s).segment_in_store(
-        &memory[..lent],
-        start,
-        end,
-    ));
+    let a = answers::store::of_in_store(store_of(s).segment_in_store(&memory[..lent], start, end));
     if a.refusal != 0 {
-        return answers::show_refusal(s, a, out);
+        return refusals::show_refusal(s, a, out);
     }
     if a.first == 0 {
         return state::says(s, out, b"no");
@@ -88,13 +84,13 @@ pub fn octets(
 ) -> State {
     let lent = part::first_numbers(memory, s.length);
     let n = part::first_octets(buf, length as usize);
-    let a = c_answers::store::of_write(store_of(s).write_segments_to_bytes(
+    let a = answers::store::of_write(store_of(s).write_segments_to_bytes(
         &memory[..lent],
         &mut buf[..n],
         flag_of(large),
     ));
     if a.refusal != 0 {
-        return answers::show_refusal(s, a, out);
+        return refusals::show_refusal(s, a, out);
     }
     let at = print::text(out, s.at, b"octets ");
     let written = part::first_octets(buf, n);
