@@ -2,14 +2,14 @@
 ghost use mathlib.Core.Path.{_≡_};
 ghost use Rattle.reception.specs.Data.{dataOutcome, dataRecord, dataList};
 ghost use Rattle.reception.specs.Metadata.{metadataOutcome, metadataRecord};
-ghost use Rattle.c_answers.specs.Answer.{answerOf};
+ghost use Rattle.answers.specs.Answer.{answerOf};
 ghost use Rattle.c_values.specs.Input.{recordIn};
 ghost use Rattle.c_values.specs.Output.{advancedTo, markAfter, markedBy};
 use crate::PusmarkeReception;
 use crate::inner::record_in;
-use c_answers::PusmarkeAnswer;
-use c_answers::events::of_data;
-use c_answers::events::of_metadata;
+use answers::PusmarkeAnswer;
+use answers::events::of_data;
+use answers::events::of_metadata;
 use events::data::data_core;
 use events::metadata::metadata_core;
 

@@ -1,6 +1,6 @@
 // Inner: the console's own. Each function is proved safe and ending, and states what its callers need for that.
-pub mod answers; // answers.rt: an answer in numbers as a line
 pub mod pdus; // pdus.rt: write, read, nak
 pub mod receiving; // receiving.rt: data, metadata
+pub mod refusals; // refusals.rt: a refusal as a line
 pub mod state; // state.rt: what the console holds from line to line
 pub mod store; // store.rt: the store's five calls

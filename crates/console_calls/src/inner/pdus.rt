@@ -1,11 +1,11 @@
 // NAK PDUs: written, read, and the sequence.
 ghost use Prim.Native.Nat.{_≤_};
 ghost use lib.ListN.{length};
-use crate::inner::answers;
+use crate::inner::refusals;
 use crate::inner::state;
 use crate::inner::state::State;
 use crate::inner::store::flag_of;
-use c_answers::PusmarkeAnswer;
+use answers::PusmarkeAnswer;
 use console_text::inner::part;
 use console_text::inner::print;
 use nak::Identity;
@@ -33,7 +33,7 @@ fn write_requests(
     out: &mut [u8; 65536],
 ) -> State {
     let size = part::first_octets(buf, values[8] as usize);
-    let a = c_answers::pdu::of_write(nak::writer::write(
+    let a = answers::pdu::of_write(nak::writer::write(
         identity_of(values),
         flag_of(values[5]),
         values[6],
@@ -42,7 +42,7 @@ fn write_requests(
         &mut buf[..size],
     ));
     if a.refusal != 0 {
-        return answers::show_refusal(s, a, out);
+        return refusals::show_refusal(s, a, out);
     }
     let at = print::text(out, s.at, b"pdu ");
     let written = part::first_octets(buf, size);
@@ -105,8 +105,8 @@ fn show_requests(
 fn read_packet(s: State, packet: &[u8], out: &mut [u8; 65536]) -> State {
     let parsed = nak_reader::read_fields(packet);
     if parsed.refusal != 0 {
-        let a = c_answers::inner::with_two(parsed.refusal, parsed.start, parsed.end);
-        return answers::show_refusal(s, a, out);
+        let a = answers::inner::with_two(parsed.refusal, parsed.start, parsed.end);
+        return refusals::show_refusal(s, a, out);
     }
     let identity = parsed.identity;
     let flag = parsed.flag;
@@ -178,7 +178,7 @@ pub fn sequence(
     let lent = part::first_numbers(memory, s.length);
     let size = part::first_octets(buf, values[9] as usize);
     let rec = s.rec;
-    let a = c_answers::sequence::of_sequence(nak_sequence::write_nak_sequence(
+    let a = answers::sequence::of_sequence(nak_sequence::write_nak_sequence(
         rec,
         &memory[..lent],
         identity_of(values),
@@ -189,7 +189,7 @@ pub fn sequence(
         &mut buf[..size],
     ));
     if a.refusal != 0 {
-        return answers::show_refusal(s, a, out);
+        return refusals::show_refusal(s, a, out);
     }
     let octets = part::first_octets(buf, a.second as usize);
     show_sent(s, &buf[..octets], a, out)

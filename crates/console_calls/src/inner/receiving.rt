@@ -1,5 +1,5 @@
 // The reception events.
-use crate::inner::answers;
+use crate::inner::refusals;
 use crate::inner::state;
 use crate::inner::state::State;
 use console_text::inner::part;
@@ -34,9 +34,9 @@ pub fn data(
     let done = events::data::data_core(rec, &mut memory[..lent], offset, length);
     let answer = done.answer;
     let after = done.rec;
-    let a = c_answers::events::of_data(answer);
+    let a = answers::events::of_data(answer);
     if a.refusal != 0 {
-        return answers::show_refusal(s, a, out);
+        return refusals::show_refusal(s, a, out);
     }
     show_event(state::with_record(s, after), a.first, out)
 }
@@ -47,9 +47,9 @@ pub fn metadata(s: State, memory: &[u64], out: &mut [u8; 65536]) -> State {
     let done = events::metadata::metadata_core(rec, &memory[..lent]);
     let answer = done.answer;
     let after = done.rec;
-    let a = c_answers::events::of_metadata(answer);
+    let a = answers::events::of_metadata(answer);
     if a.refusal != 0 {
-        return answers::show_refusal(s, a, out);
+        return refusals::show_refusal(s, a, out);
     }
     state::says(state::with_record(s, after), out, b"known")
 }

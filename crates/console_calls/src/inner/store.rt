@@ -1,5 +1,5 @@
 // The store's calls.
-use crate::inner::answers;
+use crate::inner::refusals;
 use crate::inner::state;
 use crate::inner::state::State;
 use console_text::inner::part;
@@ -30,14 +30,14 @@ fn changed(s: State, out: &mut [u8; 65536], word: &[u8], count: u64) -> State {
 
 pub fn add(s: State, memory: &mut [u64], start: u64, end: u64, out: &mut [u8; 65536]) -> State {
     let lent = part::first_numbers(memory, s.length);
-    let a = c_answers::store::of_add(lost_segments::add::add(
+    let a = answers::store::of_add(lost_segments::add::add(
         store_of(s),
         &mut memory[..lent],
         start,
         end,
     ));
     if a.refusal != 0 {
-        return answers::show_refusal(s, a, out);
+        return refusals::show_refusal(s, a, out);
     }
     changed(s, out, b"added", a.first)
 }
@@ -55,14 +55,14 @@ fn removed_word(out: &mut [u8; 65536], at: usize, what: u64) -> usize {
 
 pub fn remove(s: State, memory: &mut [u64], start: u64, end: u64, out: &mut [u8; 65536]) -> State {
     let lent = part::first_numbers(memory, s.length);
-    let a = c_answers::store::of_remove(lost_segments::remove::remove(
+    let a = answers::store::of_remove(lost_segments::remove::remove(
         store_of(s),
         &mut memory[..lent],
         start,
         end,
     ));
     if a.refusal != 0 {
-        return answers::show_refusal(s, a, out);
+        return refusals::show_refusal(s, a, out);
     }
     let at = removed_word(out, s.at, a.first);
     if a.first == 0 {
@@ -74,26 +74,26 @@ pub fn remove(s: State, memory: &mut [u64], start: u64, end: u64, out: &mut [u8;
 
 pub fn coalesce(s: State, memory: &mut [u64], out: &mut [u8; 65536]) -> State {
     let lent = part::first_numbers(memory, s.length);
-    let a = c_answers::store::of_coalesce(lost_segments::coalesce::coalesce(
+    let a = answers::store::of_coalesce(lost_segments::coalesce::coalesce(
         store_of(s),
         &mut memory[..lent],
     ));
     if a.refusal != 0 {
-        return answers::show_refusal(s, a, out);
+        return refusals::show_refusal(s, a, out);
     }
     changed(s, out, b"coalesced", a.first)
 }
 
 pub fn within(s: State, memory: &[u64], start: u64, end: u64, out: &mut [u8; 65536]) -> State {
     let lent = part::first_numbers(memory, s.length);
-    let a = c_answers::store::of_in_store(lost_segments::segment_in_store::segment_in_store(
+    let a = answers::store::of_in_store(lost_segments::segment_in_store::segment_in_store(
         store_of(s),
         &memory[..lent],
         start,
         end,
     ));
     if a.refusal != 0 {
-        return answers::show_refusal(s, a, out);
+        return refusals::show_refusal(s, a, out);
     }
     if a.first == 0 {
         return state::says(s, out, b"no");
@@ -120,14 +120,14 @@ pub fn octets(
     let lent = part::first_numbers(memory, s.length);
     let n = part::first_octets(buf, length as usize);
     let a =
-        c_answers::store::of_write(lost_segments::write_segments_to_bytes::write_segments_to_bytes(
+        answers::store::of_write(lost_segments::write_segments_to_bytes::write_segments_to_bytes(
             store_of(s),
             &memory[..lent],
             &mut buf[..n],
             flag_of(large),
         ));
     if a.refusal != 0 {
-        return answers::show_refusal(s, a, out);
+        return refusals::show_refusal(s, a, out);
     }
     let at = print::text(out, s.at, b"octets ");
     let written = part::first_octets(buf, n);

@@ -2,7 +2,7 @@
 use mathlib.Core.Path.{_≡_, ap, _∙_}
 use borrow.Author.Needs.{needs}
 use Rattle.reception.specs.declared.Reception.{Reception}
-use Rattle.c_answers.specs.Answer.{answerOf}
+use Rattle.answers.specs.Answer.{answerOf}
 use Rattle.c_values.specs.Input.{recordIn}
 use Rattle.c_values.specs.Output.{marked, markedBy}
 use Rattle.c_values.proofs.record_events.metadata_whole.Statement.{statement}

@@ -45,14 +45,14 @@ use Rattle.c_values.specs.declared.PusmarkeReception.{PusmarkeReception}
 use Rattle.c_values.specs.declared.record_events.EventOut.{EventOut}
 use Rattle.c_values.specs.Input.{recordIn}
 use Rattle.reception.specs.Metadata.{metadataOutcome, metadataRecord}
-use Rattle.c_answers.specs.Answer.{answerOf}
+use Rattle.answers.specs.Answer.{answerOf}
 use Rattle.c_values.specs.Output.{markedBy}
 use Rattle.c_values.proofs.PusmarkeReception as T
 use Rattle.c_values.proofs.PusmarkeReception.Laws as T′
 use Rattle.c_values.proofs.record_events.EventOut as S
 use Rattle.c_values.proofs.record_events.EventOut.Laws as S′
-use Rattle.c_answers.proofs.PusmarkeAnswer as N
-use Rattle.c_answers.proofs.PusmarkeAnswer.Laws as N′
+use Rattle.answers.proofs.PusmarkeAnswer as N
+use Rattle.answers.proofs.PusmarkeAnswer.Laws as N′
 use Rattle.c_values.proofs.record_events.metadata_whole as core
 use Rattle.c_values.proofs.record_events.metadata_whole.Symbol as core-def
 use Rattle.c_values.proofs.record_events.metadata_whole.Symbol.{name as #c-values·record-events·metadata-whole}

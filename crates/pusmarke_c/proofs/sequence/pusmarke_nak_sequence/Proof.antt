@@ -1,7 +1,7 @@
 -- `sequence::pusmarke_nak_sequence` meets its contract: it says of C's numbers what the call that it wraps says of its own types.
 use mathlib.Core.Path.{ap, _∙_}
 use borrow.Author.Needs.{needs}
-use Rattle.c_answers.specs.Answer.{answerOf}
+use Rattle.answers.specs.Answer.{answerOf}
 use Rattle.pusmarke_c.proofs.sequence.pusmarke_nak_sequence.Statement.{statement}
 use Rattle.pusmarke_c.proofs.sequence.pusmarke_nak_sequence.Tie as tie
 

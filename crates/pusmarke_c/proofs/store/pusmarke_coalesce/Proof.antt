@@ -1,7 +1,7 @@
 -- `store::pusmarke_coalesce` meets its contract: it says of C's numbers what the call that it wraps says of its own types.
 use mathlib.Core.Path.{ap, _∙_}
 use borrow.Author.Needs.{needs}
-use Rattle.c_answers.specs.Answer.{answerOf}
+use Rattle.answers.specs.Answer.{answerOf}
 use Rattle.pusmarke_c.proofs.store.pusmarke_coalesce.Statement.{statement}
 use Rattle.pusmarke_c.proofs.store.pusmarke_coalesce.Tie as tie
 

@@ -1,0 +1,30 @@
+// Of the data event and of the metadata event.
+ghost use mathlib.Core.Path.{_≡_};
+ghost use Rattle.reception.specs.Data.{dataCase};
+ghost use Rattle.reception.specs.Metadata.{metadataCase};
+ghost use Rattle.answers.specs.Answer.{answerOf};
+use crate::PusmarkeAnswer;
+use crate::inner::bare;
+use crate::inner::with_one;
+use crate::refusal::of_refusal;
+use reception::data::DataAnswer;
+use reception::metadata::MetadataAnswer;
+
+pub fn of_data(a: DataAnswer) -> PusmarkeAnswer
+    ensures { λ r. ⌜ r ≡ answerOf (dataCase a) ⌝ }
+{
+    match a {
+        DataAnswer::Noticed => with_one(0, 0),
+        DataAnswer::Kept => with_one(0, 1),
+        DataAnswer::Refused(r) => of_refusal(r),
+    }
+}
+
+pub fn of_metadata(a: MetadataAnswer) -> PusmarkeAnswer
+    ensures { λ r. ⌜ r ≡ answerOf (metadataCase a) ⌝ }
+{
+    match a {
+        MetadataAnswer::Known => bare(0),
+        MetadataAnswer::Refused(r) => of_refusal(r),
+    }
+}
