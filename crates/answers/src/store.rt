@@ -1,21 +1,23 @@
 // Of the store's five calls.
 ghost use mathlib.Core.Path.{_≡_};
-ghost use Rattle.store.specs.Add.{addCase};
-ghost use Rattle.store.specs.Remove.{removeCase};
-ghost use Rattle.store.specs.Coalesce.{coalesceCase};
-ghost use Rattle.store.specs.SegmentInStore.{inStoreCase};
-ghost use Rattle.store.specs.WriteSegmentsToBytes.{writeCase};
+ghost use mathlib.Core.List.{[], _∷_};
+ghost use Rattle.outcomes.specs.Outcome.{accepted};
+ghost use Rattle.segment_store.specs.Add.{addCase};
+ghost use Rattle.segment_store.specs.Remove.{removeCase};
+ghost use Rattle.segment_store.specs.Coalesce.{coalesceCase};
+ghost use Rattle.segment_store.specs.SegmentInStore.{inStoreCase};
+ghost use Rattle.segment_store.specs.WriteSegmentsToBytes.{writeCase};
 ghost use Rattle.answers.specs.Answer.{answerOf};
 use crate::PusmarkeAnswer;
 use crate::inner::wide;
 use crate::inner::with_one;
 use crate::inner::with_three;
 use crate::refusal::of_refusal;
-use store::add::AddAnswer;
-use store::coalesce::CoalesceAnswer;
-use store::remove::RemoveAnswer;
-use store::segment_in_store::InStoreAnswer;
-use store::write_segments_to_bytes::WriteAnswer;
+use segment_store::add::AddAnswer;
+use segment_store::coalesce::CoalesceAnswer;
+use segment_store::remove::RemoveAnswer;
+use segment_store::segment_in_store::InStoreAnswer;
+use segment_store::write_segments_to_bytes::WriteAnswer;
 
 pub fn of_add(a: AddAnswer) -> PusmarkeAnswer
     ensures { λ r. ⌜ r ≡ answerOf (addCase a) ⌝ }
@@ -26,15 +28,22 @@ pub fn of_add(a: AddAnswer) -> PusmarkeAnswer
     }
 }
 
+// What left, by its number, the index and the count.
+fn removed(what: u64, index: usize, count: usize) -> PusmarkeAnswer
+    ensures { λ r. ⌜ r ≡ answerOf (accepted (what ∷ index ∷ count ∷ [])) ⌝ }
+{
+    with_three(0, what, wide(index), wide(count))
+}
+
 pub fn of_remove(a: RemoveAnswer) -> PusmarkeAnswer
     ensures { λ r. ⌜ r ≡ answerOf (removeCase a) ⌝ }
 {
     match a {
-        RemoveAnswer::Whole(index, count) => with_three(0, 1, wide(index), wide(count)),
-        RemoveAnswer::Left(index, count) => with_three(0, 2, wide(index), wide(count)),
-        RemoveAnswer::Right(index, count) => with_three(0, 3, wide(index), wide(count)),
-        RemoveAnswer::Split(index, count) => with_three(0, 4, wide(index), wide(count)),
-        RemoveAnswer::NotStored(count) => with_three(0, 0, 0, wide(count)),
+        RemoveAnswer::Whole(index, count) => removed(1, index, count),
+        RemoveAnswer::Left(index, count) => removed(2, index, count),
+        RemoveAnswer::Right(index, count) => removed(3, index, count),
+        RemoveAnswer::Split(index, count) => removed(4, index, count),
+        RemoveAnswer::NotStored(count) => removed(0, 0, count),
         RemoveAnswer::Refused(r) => of_refusal(r),
     }
 }

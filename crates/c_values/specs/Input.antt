@@ -6,7 +6,7 @@ use Rattle.ranges.specs.declared.Width.{Width}
 use Rattle.ranges.specs.declared.Width.the-variants.{Wide, Narrow}
 use Rattle.octets.specs.declared.LargeFileFlag.{LargeFileFlag}
 use Rattle.octets.specs.declared.LargeFileFlag.the-variants.{Normal, Large}
-use Rattle.store.specs.declared.Store.{Store}
+use Rattle.segment_store.specs.declared.Store.{Store}
 use Rattle.reception.specs.declared.Reception.{Reception}
 use Rattle.nak.specs.declared.Identity.{Identity}
 use Rattle.c_values.specs.declared.PusmarkeReception.{PusmarkeReception}

@@ -8,7 +8,7 @@ use nak::Identity;
 use octets::LargeFileFlag;
 use ranges::Width;
 use reception::Reception;
-use store::Store;
+use segment_store::Store;
 
 pub fn is_set(mark: u64) -> bool
     ensures { λ r. ⌜ r ≡ isSet mark ⌝ }

@@ -14,7 +14,7 @@ use Rattle.ranges.proofs.Stored.{counted-stored, stored-shrunk, length-stored, 
 use Rattle.ranges.specs.Inner.Moves.{over}
 use Rattle.ranges.specs.Insert.{join}
 use Rattle.ranges.proofs.Insert.{join-length}
-use Rattle.store.specs.Coalesce.{gather, maximalRuns}
+use Rattle.segment_store.specs.Coalesce.{gather, maximalRuns}
 
 -- xs is the list at entry, l at the loop's head; the first m counted of l are those of the first k of xs, coalesced
 pub record MergedSoFar (xs l : List ℕ) (n m k : ℕ) : Type 0 where

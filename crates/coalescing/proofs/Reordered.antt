@@ -11,8 +11,8 @@ use Rattle.ranges.specs.Store.{counted, stored}
 use Rattle.ranges.proofs.Flat.{length-counted, getD-counted}
 use Rattle.ranges.proofs.Unique.{unique}
 use Rattle.ranges.proofs.Covering.{covers-at, at-covers}
-use Rattle.store.specs.Coalesce.{maximalRuns}
-use Rattle.store.proofs.coalesce.Meaning.{runs-coalesced, runs-covers}
+use Rattle.segment_store.specs.Coalesce.{maximalRuns}
+use Rattle.segment_store.proofs.coalesce.Meaning.{runs-coalesced, runs-covers}
 use Rattle.pair_sort.specs.Sorted.{pair, Shuffled}
 
 moved : (x : ℕ) (xs ys : List ℕ) (n : ℕ) → 2 * n ≤ length xs → 2 * n ≤ length ys → ((i : ℕ) → i < n → (j : ℕ) × (j < n) × (pair xs i ≡ pair ys j))

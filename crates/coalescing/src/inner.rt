@@ -6,7 +6,7 @@ ghost use Rattle.ranges.specs.Range.{range, Coalesced};
 ghost use Rattle.ranges.specs.Insert.{join};
 ghost use Rattle.ranges.specs.Store.{counted, stored};
 ghost use Rattle.pair_sort.specs.Sorted.{Ascending};
-ghost use Rattle.store.specs.Coalesce.{maximalRuns};
+ghost use Rattle.segment_store.specs.Coalesce.{maximalRuns};
 ghost use Rattle.coalescing.specs.Inner.{Low};
 use pair_sort::inner::sort_pairs;
 use ranges::inner::moves::tidy;

@@ -2,7 +2,7 @@
 use mathlib.Core.Path.{_≡_, refl}
 use mathlib.Core.List.{map}
 use Rattle.ranges.specs.Store.{isBadStore, stored}
-use Rattle.store.specs.Coalesce.{maximalRuns}
+use Rattle.segment_store.specs.Coalesce.{maximalRuns}
 use Rattle.reception.specs.Record.{isBadRecord}
 use Rattle.examples.specs.Example.{result}
 use Rattle.examples.specs.Table.{Row, table}

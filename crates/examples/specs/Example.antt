@@ -8,10 +8,10 @@ use Rattle.outcomes.specs.Outcome.{Outcome}
 use Rattle.ranges.specs.declared.Width.{Width}
 use Rattle.ranges.specs.declared.Width.the-variants.{Wide}
 use Rattle.octets.specs.declared.LargeFileFlag.the-variants.{Normal}
-use Rattle.store.specs.declared.Store.{Store}
-use Rattle.store.specs.Add.{addOutcome, addList}
-use Rattle.store.specs.Remove.{removeOutcome, removeList}
-use Rattle.store.specs.Coalesce.{coalesceOutcome, coalesceList}
+use Rattle.segment_store.specs.declared.Store.{Store}
+use Rattle.segment_store.specs.Add.{addOutcome, addList}
+use Rattle.segment_store.specs.Remove.{removeOutcome, removeList}
+use Rattle.segment_store.specs.Coalesce.{coalesceOutcome, coalesceList}
 use Rattle.reception.specs.History.{Event, State, fresh, outcome, step, run}
 use Rattle.nak.specs.declared.Identity.{Identity}
 use Rattle.nak.specs.Pdu.{Nak}

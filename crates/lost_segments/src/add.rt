@@ -3,12 +3,12 @@ ghost use mathlib.Core.Path.{_≡_};
 ghost use mathlib.Core.List.{[]};
 ghost use Rattle.outcomes.specs.Outcome.{accepted};
 ghost use Rattle.outcomes.specs.Checks.{firstOf, verdictCase};
-ghost use Rattle.store.specs.Add.{addCase, addChecks, addOutcome, addList};
+ghost use Rattle.segment_store.specs.Add.{addCase, addChecks, addOutcome, addList};
 use outcomes::Refusal;
 use outcomes::Verdict;
 use ranges::inner::pairs::put_pair;
-use store::Store;
-use store::add::AddAnswer;
+use segment_store::Store;
+use segment_store::add::AddAnswer;
 
 // The checks of add, in order.
 fn add_checks(st: Store, list: &[u64], start: u64, end: u64) -> Verdict

@@ -1,12 +1,12 @@
 // coalesce: the maximal runs of the counted pairs.
 ghost use mathlib.Core.Path.{_≡_};
-ghost use Rattle.store.specs.Coalesce.{coalesceCase, coalesceOutcome, coalesceList};
+ghost use Rattle.segment_store.specs.Coalesce.{coalesceCase, coalesceOutcome, coalesceList};
 use crate::inner::store_checks;
 use coalescing::inner::coalesce_counted;
 use outcomes::Refusal;
 use outcomes::Verdict;
-use store::Store;
-use store::coalesce::CoalesceAnswer;
+use segment_store::Store;
+use segment_store::coalesce::CoalesceAnswer;
 
 pub fn coalesce(st: Store, list: &mut [u64]) -> CoalesceAnswer
     ensures { λ r. ⌜ coalesceCase r ≡ coalesceOutcome (now (list .entry)) st ⌝ }

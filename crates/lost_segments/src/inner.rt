@@ -3,10 +3,10 @@ ghost use mathlib.Core.Path.{_≡_};
 ghost use mathlib.Core.List.{[]};
 ghost use Rattle.outcomes.specs.Outcome.{accepted};
 ghost use Rattle.outcomes.specs.Checks.{firstOf, verdictCase};
-ghost use Rattle.store.specs.Checks.{storeChecks};
+ghost use Rattle.segment_store.specs.Checks.{storeChecks};
 use outcomes::Refusal;
 use outcomes::Verdict;
-use store::Store;
+use segment_store::Store;
 
 // Check 10.
 pub fn store_checks(st: Store, list: &[u64]) -> Verdict

@@ -9,7 +9,7 @@ ghost use Rattle.ranges.specs.Store.{counted, capacity, stored, mostNumbers};
 ghost use Rattle.outcomes.specs.Outcome.{accepted, lent};
 ghost use Rattle.outcomes.specs.Checks.{firstOf, verdictCase};
 ghost use Rattle.lost_segments.specs.Inner.{partNumber};
-ghost use Rattle.store.specs.Remove.{removeCase, removeChecks, removeFrom, removeOutcome, removeList};
+ghost use Rattle.segment_store.specs.Remove.{removeCase, removeChecks, removeFrom, removeOutcome, removeList};
 use outcomes::Refusal;
 use outcomes::Verdict;
 use ranges::inner::checks::check;
@@ -19,8 +19,8 @@ use ranges::inner::cut::cut;
 use ranges::inner::cut::first_past;
 use ranges::inner::pairs::end_at;
 use ranges::inner::pairs::start_at;
-use store::Store;
-use store::remove::RemoveAnswer;
+use segment_store::Store;
+use segment_store::remove::RemoveAnswer;
 
 // The checks of remove, in order.
 fn remove_checks(st: Store, list: &[u64], a: u64, b: u64) -> Verdict

@@ -1,12 +1,12 @@
 // segment_in_store: whether a range lies inside a counted pair.
 ghost use mathlib.Core.Path.{_≡_};
-ghost use Rattle.store.specs.SegmentInStore.{inStoreCase, inStoreOutcome};
+ghost use Rattle.segment_store.specs.SegmentInStore.{inStoreCase, inStoreOutcome};
 use crate::inner::store_checks;
 use outcomes::Refusal;
 use outcomes::Verdict;
 use ranges::inner::checks::any_holds;
-use store::Store;
-use store::segment_in_store::InStoreAnswer;
+use segment_store::Store;
+use segment_store::segment_in_store::InStoreAnswer;
 
 pub fn segment_in_store(st: Store, list: &[u64], a: u64, b: u64) -> InStoreAnswer
     ensures { λ r. ⌜ inStoreCase r ≡ inStoreOutcome (now (list .entry)) st a b ⌝ }

@@ -7,14 +7,14 @@ ghost use lib.ListN.{length, take};
 ghost use Rattle.ranges.specs.Store.{anyAbove};
 ghost use Rattle.outcomes.specs.Outcome.{accepted};
 ghost use Rattle.outcomes.specs.Checks.{firstOf, verdictCase};
-ghost use Rattle.store.specs.WriteSegmentsToBytes.{writeCase, writeChecks, writeOutcome, writeBuffer};
+ghost use Rattle.segment_store.specs.WriteSegmentsToBytes.{writeCase, writeChecks, writeOutcome, writeBuffer};
 use octets::LargeFileFlag;
 use octets::inner::put_all;
 use outcomes::Refusal;
 use outcomes::Verdict;
 use ranges::inner::checks::any_above;
-use store::Store;
-use store::write_segments_to_bytes::WriteAnswer;
+use segment_store::Store;
+use segment_store::write_segments_to_bytes::WriteAnswer;
 
 // 7: whether one of the first `end` numbers, none of them above top, is above the flag's largest.
 fn any_too_large(list: &[u64], end: usize, top: u64, largest: u64) -> bool

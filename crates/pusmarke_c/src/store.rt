@@ -1,10 +1,10 @@
 // The store's five calls. The list is flat, start and end by turns; `count` pairs of it are counted.
 ghost use mathlib.Core.Path.{_≡_};
-ghost use Rattle.store.specs.Add.{addOutcome, addList};
-ghost use Rattle.store.specs.Remove.{removeOutcome, removeList};
-ghost use Rattle.store.specs.Coalesce.{coalesceOutcome, coalesceList};
-ghost use Rattle.store.specs.SegmentInStore.{inStoreOutcome};
-ghost use Rattle.store.specs.WriteSegmentsToBytes.{writeOutcome, writeBuffer};
+ghost use Rattle.segment_store.specs.Add.{addOutcome, addList};
+ghost use Rattle.segment_store.specs.Remove.{removeOutcome, removeList};
+ghost use Rattle.segment_store.specs.Coalesce.{coalesceOutcome, coalesceList};
+ghost use Rattle.segment_store.specs.SegmentInStore.{inStoreOutcome};
+ghost use Rattle.segment_store.specs.WriteSegmentsToBytes.{writeOutcome, writeBuffer};
 ghost use Rattle.c_values.specs.Input.{storeOf, flagIn};
 ghost use Rattle.answers.specs.Answer.{answerOf};
 use answers::PusmarkeAnswer;

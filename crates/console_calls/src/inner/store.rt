@@ -5,7 +5,7 @@ use crate::inner::state::State;
 use console_text::inner::part;
 use console_text::inner::print;
 use octets::LargeFileFlag;
-use store::Store;
+use segment_store::Store;
 
 fn store_of(s: State) -> Store {
     let rec = s.rec;

@@ -23,7 +23,7 @@ use Rattle.ranges.proofs.Without.{without-none, place-at}
 use Rattle.ranges.proofs.Cutting.{cut-told, full-told}
 use Rattle.ranges.proofs.Gone.{gone-took}
 use Rattle.ranges.proofs.Holder.{one-holder}
-use Rattle.store.specs.Remove.{partOf, indexOf, removeFrom}
+use Rattle.segment_store.specs.Remove.{partOf, indexOf, removeFrom}
 use Rattle.lost_segments.specs.Inner.{partNumber}
 use Rattle.lost_segments.proofs.remove.Found.{found-inside, found-shares, found-behind}
 

@@ -11,10 +11,10 @@ use Rattle.ranges.proofs.Good.{good}
 use Rattle.ranges.proofs.Stored.{stored-push}
 use Rattle.outcomes.specs.Outcome.{Outcome, accepted}
 use Rattle.outcomes.specs.Checks.{Check}
-use Rattle.store.specs.declared.Store.{Store}
-use Rattle.store.specs.Add.{addChecks, Takes}
+use Rattle.segment_store.specs.declared.Store.{Store}
+use Rattle.segment_store.specs.Add.{addChecks, Takes}
 use Rattle.outcomes.proofs.Ends.{checks-passed, refused-end, passed-end}
-use Rattle.store.proofs.add.Meaning.{takes-of, of-takes}
+use Rattle.segment_store.proofs.add.Meaning.{takes-of, of-takes}
 use Rattle.lost_segments.proofs.add.add.Statement.{statement}
 use Rattle.lost_segments.proofs.add.add.Tie as tie
 

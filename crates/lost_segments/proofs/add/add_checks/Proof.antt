@@ -7,8 +7,8 @@ use Prim.Native.Nat.{ℕ, _≤_, _<_}
 use borrow.Author.Needs.{needs}
 use borrow.Author.Tests.{eq-eqb, ne-eqb, lt-ltb, le-ltb}
 use Rattle.ranges.specs.Store.{limitOf}
-use Rattle.store.specs.declared.Store.{Store}
-use Rattle.store.specs.Checks.{isBad}
+use Rattle.segment_store.specs.declared.Store.{Store}
+use Rattle.segment_store.specs.Checks.{isBad}
 use Rattle.lost_segments.proofs.add.add_checks.Statement.{statement}
 use Rattle.lost_segments.proofs.add.add_checks.Tie as tie
 

@@ -9,9 +9,9 @@ use Rattle.ranges.specs.Store.{counted, stored}
 use Rattle.ranges.proofs.Good.{good}
 use Rattle.outcomes.specs.Outcome.{Outcome, accepted}
 use Rattle.outcomes.specs.Checks.{Check, NoneOf}
-use Rattle.store.specs.declared.Store.{Store}
-use Rattle.store.specs.Checks.{storeChecks}
-use Rattle.store.specs.Coalesce.{maximalRuns}
+use Rattle.segment_store.specs.declared.Store.{Store}
+use Rattle.segment_store.specs.Checks.{storeChecks}
+use Rattle.segment_store.specs.Coalesce.{maximalRuns}
 use Rattle.outcomes.proofs.Ends.{checks-passed, refused-end, passed-end}
 use Rattle.lost_segments.proofs.coalesce.coalesce.Statement.{statement}
 use Rattle.lost_segments.proofs.coalesce.coalesce.Tie as tie

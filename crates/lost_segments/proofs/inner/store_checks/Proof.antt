@@ -2,7 +2,7 @@
 use mathlib.Core.Path.{_≡_, sym, _∙_}
 use mathlib.Core.Bool.{Bool, true, false}
 use borrow.Author.Needs.{needs}
-use Rattle.store.specs.Checks.{isBad}
+use Rattle.segment_store.specs.Checks.{isBad}
 use Rattle.lost_segments.proofs.inner.store_checks.Statement.{statement}
 use Rattle.lost_segments.proofs.inner.store_checks.Tie as tie
 

@@ -8,10 +8,10 @@ use Rattle.ranges.specs.Without.{without}
 use Rattle.ranges.proofs.Good.{good}
 use Rattle.outcomes.specs.Outcome.{Outcome}
 use Rattle.outcomes.specs.Checks.{Check}
-use Rattle.store.specs.declared.Store.{Store}
-use Rattle.store.specs.Remove.{removeCase, removeChecks, removeFrom, Passes}
+use Rattle.segment_store.specs.declared.Store.{Store}
+use Rattle.segment_store.specs.Remove.{removeCase, removeChecks, removeFrom, Passes}
 use Rattle.outcomes.proofs.Ends.{checks-passed, refused-end, passed-end}
-use Rattle.store.proofs.remove.Meaning.{passes-of, of-passes}
+use Rattle.segment_store.proofs.remove.Meaning.{passes-of, of-passes}
 use Rattle.lost_segments.proofs.remove.remove.Statement.{statement}
 use Rattle.lost_segments.proofs.remove.remove.Tie as tie
 

@@ -8,8 +8,8 @@ use borrow.Author.Needs.{needs}
 use borrow.Author.Tests.{eq-eqb, ne-eqb, lt-ltb, le-ltb}
 use Rattle.ranges.specs.Range.{isCoalesced}
 use Rattle.ranges.specs.Store.{counted, limitOf}
-use Rattle.store.specs.declared.Store.{Store}
-use Rattle.store.specs.Checks.{isBad}
+use Rattle.segment_store.specs.declared.Store.{Store}
+use Rattle.segment_store.specs.Checks.{isBad}
 use Rattle.lost_segments.proofs.remove.remove_checks.Statement.{statement}
 use Rattle.lost_segments.proofs.remove.remove_checks.Tie as tie
 

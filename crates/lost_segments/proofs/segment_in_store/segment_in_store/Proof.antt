@@ -10,9 +10,9 @@ use Rattle.ranges.proofs.Good.{good}
 use Rattle.outcomes.specs.Outcome.{Outcome, accepted}
 use Rattle.outcomes.specs.Checks.{Check, NoneOf}
 use Rattle.outcomes.proofs.FirstOf.{first-none}
-use Rattle.store.specs.declared.Store.{Store}
-use Rattle.store.specs.Checks.{storeChecks}
-use Rattle.store.specs.SegmentInStore.{inStoreOutcome}
+use Rattle.segment_store.specs.declared.Store.{Store}
+use Rattle.segment_store.specs.Checks.{storeChecks}
+use Rattle.segment_store.specs.SegmentInStore.{inStoreOutcome}
 use Rattle.outcomes.proofs.Ends.{checks-passed, checks-refused}
 use Rattle.lost_segments.proofs.segment_in_store.segment_in_store.Statement.{statement}
 use Rattle.lost_segments.proofs.segment_in_store.segment_in_store.Tie as tie

@@ -12,10 +12,10 @@ use Rattle.ranges.specs.Store.{anyAbove}
 use Rattle.ranges.proofs.Good.{Good, good}
 use Rattle.octets.specs.declared.LargeFileFlag.{LargeFileFlag}
 use Rattle.octets.specs.Flag.{fieldLength, largestOf}
-use Rattle.store.specs.declared.Store.{Store}
-use Rattle.store.specs.Checks.{isBad}
-use Rattle.store.specs.WriteSegmentsToBytes.{writeLength}
-use Rattle.store.proofs.write_segments_to_bytes.Sizes.{field-length-le, few-octets}
+use Rattle.segment_store.specs.declared.Store.{Store}
+use Rattle.segment_store.specs.Checks.{isBad}
+use Rattle.segment_store.specs.WriteSegmentsToBytes.{writeLength}
+use Rattle.segment_store.proofs.write_segments_to_bytes.Sizes.{field-length-le, few-octets}
 use Rattle.lost_segments.proofs.write_segments_to_bytes.write_checks.Statement.{statement}
 use Rattle.lost_segments.proofs.write_segments_to_bytes.write_checks.Tie as tie
 

@@ -14,10 +14,10 @@ use Rattle.octets.specs.declared.LargeFileFlag.{LargeFileFlag}
 use Rattle.octets.specs.Flag.{fieldLength}
 use Rattle.octets.specs.Octets.{fields}
 use Rattle.octets.proofs.Over.{over-whole}
-use Rattle.store.specs.declared.Store.{Store}
-use Rattle.store.specs.WriteSegmentsToBytes.{writeLength, writeChecks}
+use Rattle.segment_store.specs.declared.Store.{Store}
+use Rattle.segment_store.specs.WriteSegmentsToBytes.{writeLength, writeChecks}
 use Rattle.outcomes.proofs.Ends.{checks-passed, refused-end, passed-end}
-use Rattle.store.proofs.write_segments_to_bytes.Sizes.{pair-octets, length-octets}
+use Rattle.segment_store.proofs.write_segments_to_bytes.Sizes.{pair-octets, length-octets}
 use Rattle.lost_segments.proofs.write_segments_to_bytes.write_segments_to_bytes.Statement.{statement}
 use Rattle.lost_segments.proofs.write_segments_to_bytes.write_segments_to_bytes.Tie as tie
 

@@ -9,10 +9,10 @@ use Rattle.ranges.specs.Store.{counted, stored}
 use Rattle.outcomes.specs.Outcome.{Outcome, accepted, lent}
 use Rattle.outcomes.specs.Refusal.{refusing}
 use Rattle.outcomes.specs.Checks.{firstOf}
-use Rattle.store.specs.declared.Store.{Store}
-use Rattle.store.specs.Checks.{storeChecks}
-use Rattle.store.specs.declared.coalesce.CoalesceAnswer.{CoalesceAnswer}
-use Rattle.store.specs.declared.coalesce.CoalesceAnswer.the-variants as answer
+use Rattle.segment_store.specs.declared.Store.{Store}
+use Rattle.segment_store.specs.Checks.{storeChecks}
+use Rattle.segment_store.specs.declared.coalesce.CoalesceAnswer.{CoalesceAnswer}
+use Rattle.segment_store.specs.declared.coalesce.CoalesceAnswer.the-variants as answer
 
 -- The number and the values of each case of the answer.
 abbrev pub coalesceCase : CoalesceAnswer → Outcome

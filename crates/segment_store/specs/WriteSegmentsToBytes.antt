@@ -13,10 +13,10 @@ use Rattle.outcomes.specs.declared.Refusal.the-variants as refusal
 use Rattle.octets.specs.declared.LargeFileFlag.{LargeFileFlag}
 use Rattle.octets.specs.Flag.{fieldLength, largestOf}
 use Rattle.octets.specs.Octets.{fields}
-use Rattle.store.specs.declared.Store.{Store}
-use Rattle.store.specs.Checks.{isBad}
-use Rattle.store.specs.declared.write_segments_to_bytes.WriteAnswer.{WriteAnswer}
-use Rattle.store.specs.declared.write_segments_to_bytes.WriteAnswer.the-variants as answer
+use Rattle.segment_store.specs.declared.Store.{Store}
+use Rattle.segment_store.specs.Checks.{isBad}
+use Rattle.segment_store.specs.declared.write_segments_to_bytes.WriteAnswer.{WriteAnswer}
+use Rattle.segment_store.specs.declared.write_segments_to_bytes.WriteAnswer.the-variants as answer
 
 -- The number and the values of each case of the answer; an accepted call hands back the number of octets written.
 abbrev pub writeCase : WriteAnswer → Outcome

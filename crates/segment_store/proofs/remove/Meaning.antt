@@ -27,12 +27,12 @@ use Rattle.ranges.proofs.Good.{good}
 use Rattle.ranges.proofs.Flat.{length-counted}
 use Rattle.ranges.proofs.Stored.{counted-stored, stored-same}
 use Rattle.ranges.proofs.Without.{without-covers, without-coalesced, without-none, length-without}
-use Rattle.store.specs.declared.Store.{Store}
-use Rattle.store.specs.Slots.{Slots}
-use Rattle.store.specs.Remove.{partOf, removeChecks, removeFrom, removeOutcome, removeList, Passes, Splits}
+use Rattle.segment_store.specs.declared.Store.{Store}
+use Rattle.segment_store.specs.Slots.{Slots}
+use Rattle.segment_store.specs.Remove.{partOf, removeChecks, removeFrom, removeOutcome, removeList, Passes, Splits}
 use Rattle.outcomes.proofs.Ends.{Other, none-other}
-use Rattle.store.proofs.Behind.{stored-slots}
-use Rattle.store.proofs.remove.Split.{split-of, split-length}
+use Rattle.segment_store.proofs.Behind.{stored-slots}
+use Rattle.segment_store.proofs.remove.Split.{split-of, split-length}
 
 -- outcomes of different numbers or values differ
 number-of : {o p : Outcome} → o ≡ p → o .number ≡ p .number

@@ -5,7 +5,7 @@ use mathlib.Core.List.{List, [], _∷_}
 use Rattle.outcomes.specs.Checks.{Check}
 use Rattle.outcomes.specs.declared.Refusal.the-variants as refusal
 use Rattle.ranges.specs.Store.{limitOf, isBadStore}
-use Rattle.store.specs.declared.Store.{Store}
+use Rattle.segment_store.specs.declared.Store.{Store}
 
 -- 10: the lent list is no store with this count and width.
 abbrev pub isBad : List ℕ → Store → Bool

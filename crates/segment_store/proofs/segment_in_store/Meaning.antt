@@ -11,8 +11,8 @@ use Rattle.ranges.specs.Range.{Range, some, inside}
 use Rattle.ranges.specs.Store.{counted, limitOf, isBadStore}
 use Rattle.outcomes.specs.Outcome.{Outcome, accepted}
 use Rattle.ranges.proofs.Some.{some-member, inside-true}
-use Rattle.store.specs.declared.Store.{Store}
-use Rattle.store.specs.SegmentInStore.{Held, inStoreOutcome}
+use Rattle.segment_store.specs.declared.Store.{Store}
+use Rattle.segment_store.specs.SegmentInStore.{Held, inStoreOutcome}
 
 pub in-store-yes : (xs : List ℕ) (st : Store) (a b : ℕ) → isBadStore xs (st .count) (limitOf (st .width)) ≡ false
     → (inStoreOutcome xs st a b ≡ accepted (1 ∷ [])) ↔ Held a b (counted xs (st .count))

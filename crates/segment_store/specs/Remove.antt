@@ -12,10 +12,10 @@ use Rattle.outcomes.specs.Outcome.{Outcome, accepted, lent}
 use Rattle.outcomes.specs.Refusal.{refusing}
 use Rattle.outcomes.specs.Checks.{Check, firstOf}
 use Rattle.outcomes.specs.declared.Refusal.the-variants as refusal
-use Rattle.store.specs.declared.Store.{Store}
-use Rattle.store.specs.Checks.{isBad}
-use Rattle.store.specs.declared.remove.RemoveAnswer.{RemoveAnswer}
-use Rattle.store.specs.declared.remove.RemoveAnswer.the-variants as answer
+use Rattle.segment_store.specs.declared.Store.{Store}
+use Rattle.segment_store.specs.Checks.{isBad}
+use Rattle.segment_store.specs.declared.remove.RemoveAnswer.{RemoveAnswer}
+use Rattle.segment_store.specs.declared.remove.RemoveAnswer.the-variants as answer
 
 -- The number and the values of each case of the answer: what left, the index of its range in the list before, and the count
 -- afterwards. What left is 1 for a whole range, 2 for its left part, 3 for its right part, 4 for a part that splits it, and 0 for

@@ -16,10 +16,10 @@ use Rattle.ranges.specs.Store.{counted, limitOf, isBadStore, stored}
 use Rattle.outcomes.specs.Outcome.{Outcome, accepted}
 use Rattle.outcomes.proofs.Refusals.{lent-old}
 use Rattle.ranges.proofs.Stored.{counted-stored}
-use Rattle.store.specs.declared.Store.{Store}
-use Rattle.store.specs.Slots.{Slots}
-use Rattle.store.specs.Coalesce.{gather, maximalRuns, coalesceOutcome, coalesceList}
-use Rattle.store.proofs.Behind.{stored-slots}
+use Rattle.segment_store.specs.declared.Store.{Store}
+use Rattle.segment_store.specs.Slots.{Slots}
+use Rattle.segment_store.specs.Coalesce.{gather, maximalRuns, coalesceOutcome, coalesceList}
+use Rattle.segment_store.proofs.Behind.{stored-slots}
 
 gather-above : (qs rs : List Range) → Coalesced qs → Coalesced (gather qs rs)
 gather-above qs [] a = a

@@ -12,7 +12,7 @@ use borrow.Author.Tests.{ltb-true}
 use Rattle.ranges.specs.Range.{Range, Above}
 use Rattle.ranges.specs.Without.{pieces, without}
 use Rattle.ranges.proofs.Without.{part-one, pieces-before, without-behind}
-use Rattle.store.specs.Remove.{Splits}
+use Rattle.segment_store.specs.Remove.{Splits}
 
 module _ (a b : ℕ) where
   -- two parts are left of a range only where it starts below a and ends above b

@@ -8,21 +8,21 @@ use Rattle.outcomes.specs.Outcome.{Outcome}
 use Rattle.outcomes.specs.declared.Refusal.{Refusal}
 use Rattle.outcomes.proofs.Refusals.{value, refusalBack, refusal-back, refuses, one-refusal, no-refusal}
 use Rattle.outcomes.proofs.Apart.{apart}
-use Rattle.store.specs.Add.{addCase}
-use Rattle.store.specs.Remove.{removeCase}
-use Rattle.store.specs.Coalesce.{coalesceCase}
-use Rattle.store.specs.SegmentInStore.{inStoreCase}
-use Rattle.store.specs.WriteSegmentsToBytes.{writeCase}
-use Rattle.store.specs.declared.add.AddAnswer.{AddAnswer}
-use Rattle.store.specs.declared.add.AddAnswer.the-variants as add
-use Rattle.store.specs.declared.remove.RemoveAnswer.{RemoveAnswer}
-use Rattle.store.specs.declared.remove.RemoveAnswer.the-variants as remove
-use Rattle.store.specs.declared.coalesce.CoalesceAnswer.{CoalesceAnswer}
-use Rattle.store.specs.declared.coalesce.CoalesceAnswer.the-variants as coalesce
-use Rattle.store.specs.declared.segment_in_store.InStoreAnswer.{InStoreAnswer}
-use Rattle.store.specs.declared.segment_in_store.InStoreAnswer.the-variants as inStore
-use Rattle.store.specs.declared.write_segments_to_bytes.WriteAnswer.{WriteAnswer}
-use Rattle.store.specs.declared.write_segments_to_bytes.WriteAnswer.the-variants as write
+use Rattle.segment_store.specs.Add.{addCase}
+use Rattle.segment_store.specs.Remove.{removeCase}
+use Rattle.segment_store.specs.Coalesce.{coalesceCase}
+use Rattle.segment_store.specs.SegmentInStore.{inStoreCase}
+use Rattle.segment_store.specs.WriteSegmentsToBytes.{writeCase}
+use Rattle.segment_store.specs.declared.add.AddAnswer.{AddAnswer}
+use Rattle.segment_store.specs.declared.add.AddAnswer.the-variants as add
+use Rattle.segment_store.specs.declared.remove.RemoveAnswer.{RemoveAnswer}
+use Rattle.segment_store.specs.declared.remove.RemoveAnswer.the-variants as remove
+use Rattle.segment_store.specs.declared.coalesce.CoalesceAnswer.{CoalesceAnswer}
+use Rattle.segment_store.specs.declared.coalesce.CoalesceAnswer.the-variants as coalesce
+use Rattle.segment_store.specs.declared.segment_in_store.InStoreAnswer.{InStoreAnswer}
+use Rattle.segment_store.specs.declared.segment_in_store.InStoreAnswer.the-variants as inStore
+use Rattle.segment_store.specs.declared.write_segments_to_bytes.WriteAnswer.{WriteAnswer}
+use Rattle.segment_store.specs.declared.write_segments_to_bytes.WriteAnswer.the-variants as write
 
 pub one-add : (r s : AddAnswer) → addCase r ≡ addCase s → r ≡ s
 one-add (add.Added m) (add.Added n) e = ap (λ (k : ℕ). add.Added k) (ap (value 0) e)

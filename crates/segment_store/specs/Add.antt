@@ -10,10 +10,10 @@ use Rattle.outcomes.specs.Outcome.{Outcome, accepted, lent}
 use Rattle.outcomes.specs.Refusal.{refusing}
 use Rattle.outcomes.specs.Checks.{Check, firstOf}
 use Rattle.outcomes.specs.declared.Refusal.the-variants as refusal
-use Rattle.store.specs.declared.Store.{Store}
-use Rattle.store.specs.Checks.{isBad}
-use Rattle.store.specs.declared.add.AddAnswer.{AddAnswer}
-use Rattle.store.specs.declared.add.AddAnswer.the-variants as answer
+use Rattle.segment_store.specs.declared.Store.{Store}
+use Rattle.segment_store.specs.Checks.{isBad}
+use Rattle.segment_store.specs.declared.add.AddAnswer.{AddAnswer}
+use Rattle.segment_store.specs.declared.add.AddAnswer.the-variants as answer
 
 -- The number and the values of each case of the answer; an accepted add hands back the new count.
 abbrev pub addCase : AddAnswer → Outcome

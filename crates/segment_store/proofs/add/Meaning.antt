@@ -19,10 +19,10 @@ use Rattle.ranges.proofs.Good.{good}
 use Rattle.ranges.proofs.Flat.{length-counted}
 use Rattle.ranges.proofs.Stored.{counted-stored}
 use Rattle.ranges.proofs.Covering.{covers-append, append-covers}
-use Rattle.store.specs.declared.Store.{Store}
-use Rattle.store.specs.Slots.{Slots}
-use Rattle.store.specs.Add.{addChecks, addOutcome, addList, Takes}
-use Rattle.store.proofs.Behind.{stored-slots}
+use Rattle.segment_store.specs.declared.Store.{Store}
+use Rattle.segment_store.specs.Slots.{Slots}
+use Rattle.segment_store.specs.Add.{addChecks, addOutcome, addList, Takes}
+use Rattle.segment_store.proofs.Behind.{stored-slots}
 
 module _ (xs : List ℕ) (st : Store) (s e : ℕ) where
   abbrev top : ℕ

@@ -8,10 +8,10 @@ use Rattle.ranges.specs.Store.{counted}
 use Rattle.outcomes.specs.Outcome.{Outcome, accepted}
 use Rattle.outcomes.specs.Refusal.{refusing}
 use Rattle.outcomes.specs.Checks.{firstOf}
-use Rattle.store.specs.declared.Store.{Store}
-use Rattle.store.specs.Checks.{storeChecks}
-use Rattle.store.specs.declared.segment_in_store.InStoreAnswer.{InStoreAnswer}
-use Rattle.store.specs.declared.segment_in_store.InStoreAnswer.the-variants as answer
+use Rattle.segment_store.specs.declared.Store.{Store}
+use Rattle.segment_store.specs.Checks.{storeChecks}
+use Rattle.segment_store.specs.declared.segment_in_store.InStoreAnswer.{InStoreAnswer}
+use Rattle.segment_store.specs.declared.segment_in_store.InStoreAnswer.the-variants as answer
 
 -- The number and the values of each case of the answer: 1 for yes and 0 for no.
 abbrev pub inStoreCase : InStoreAnswer → Outcome

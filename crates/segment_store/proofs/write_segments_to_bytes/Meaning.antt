@@ -23,9 +23,9 @@ use Rattle.octets.specs.Flag.{fieldLength, largestOf}
 use Rattle.octets.specs.Octets.{field, fields, number}
 use Rattle.octets.proofs.Fields.{length-field, got-put}
 use Rattle.octets.proofs.Largest.{largest-fits}
-use Rattle.store.specs.declared.Store.{Store}
-use Rattle.store.specs.WriteSegmentsToBytes.{writeLength, writeChecks, writeOutcome, writeBuffer}
-use Rattle.store.proofs.write_segments_to_bytes.Sizes.{length-octets}
+use Rattle.segment_store.specs.declared.Store.{Store}
+use Rattle.segment_store.specs.WriteSegmentsToBytes.{writeLength, writeChecks, writeOutcome, writeBuffer}
+use Rattle.segment_store.proofs.write_segments_to_bytes.Sizes.{length-octets}
 
 pub octets-determine : (flag : LargeFileFlag) (xs ys : List ℕ) → length xs ≡ length ys → anyAbove (largestOf flag) xs ≡ false → anyAbove (largestOf flag) ys ≡ false
     → fields (fieldLength flag) xs ≡ fields (fieldLength flag) ys → xs ≡ ys
