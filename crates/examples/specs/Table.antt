@@ -2,7 +2,8 @@
 use mathlib.Core.List.{List, [], _∷_}
 use Rattle.ranges.specs.Range.{Range, range}
 use Rattle.outcomes.specs.Outcome.{Outcome, accepted}
-use Rattle.outcomes.specs.Named.{storeFull, emptySegment, largeFileSegmentNotSupported, invalidSegmentBoundary}
+use Rattle.outcomes.specs.Refusal.{refusing}
+use Rattle.outcomes.specs.declared.Refusal.the-variants as refusal
 use Rattle.ranges.specs.declared.Width.the-variants.{Wide, Narrow}
 use Rattle.reception.specs.History.{Data, Metadata}
 use Rattle.examples.specs.Example.{Example, Add, Remove, Coalesce, Events, Sequence, Came, came}
@@ -30,19 +31,19 @@ known = accepted []
 
 abbrev pub table : List Row
 table =
-    -- remove (10,20) → true, [(30,40)].
-    row (Remove Wide 2 W 10 20) (came (accepted (1 ∷ 1 ∷ []) ∷ []) (30 ∷ 40 ∷ 0 ∷ 0 ∷ []) 0)
-    -- (10,15) → [(15,20), (30,40)].
-    ∷ row (Remove Wide 2 W 10 15) (came (accepted (1 ∷ 2 ∷ []) ∷ []) (15 ∷ 20 ∷ 30 ∷ 40 ∷ []) 0)
-    -- (12,18) at capacity 2 → 1; at 3 → [(10,12), (18,20), (30,40)].
-    ∷ row (Remove Wide 2 W 12 18) (came (storeFull ∷ []) (10 ∷ 20 ∷ 30 ∷ 40 ∷ []) 0)
-    ∷ row (Remove Wide 3 W 12 18) (came (accepted (1 ∷ 3 ∷ []) ∷ []) (10 ∷ 12 ∷ 18 ∷ 20 ∷ 30 ∷ 40 ∷ []) 0)
-    -- (20,30) → false. (5,25) → 5.
-    ∷ row (Remove Wide 2 W 20 30) (came (accepted (0 ∷ []) ∷ []) (10 ∷ 20 ∷ 30 ∷ 40 ∷ []) 0)
-    ∷ row (Remove Wide 2 W 5 25) (came (invalidSegmentBoundary 5 25 ∷ []) (10 ∷ 20 ∷ 30 ∷ 40 ∷ []) 0)
+    -- remove (10,20) → true, [(30,40)]; by C-16 the whole of range 0.
+    row (Remove Wide 2 W 10 20) (came (accepted (1 ∷ 0 ∷ 1 ∷ []) ∷ []) (30 ∷ 40 ∷ 0 ∷ 0 ∷ []) 0)
+    -- (10,15) → [(15,20), (30,40)]: the left part.
+    ∷ row (Remove Wide 2 W 10 15) (came (accepted (2 ∷ 0 ∷ 2 ∷ []) ∷ []) (15 ∷ 20 ∷ 30 ∷ 40 ∷ []) 0)
+    -- (12,18) at capacity 2 → 1; at 3 → [(10,12), (18,20), (30,40)], a split.
+    ∷ row (Remove Wide 2 W 12 18) (came ((refusing refusal.StoreFull) ∷ []) (10 ∷ 20 ∷ 30 ∷ 40 ∷ []) 0)
+    ∷ row (Remove Wide 3 W 12 18) (came (accepted (4 ∷ 0 ∷ 3 ∷ []) ∷ []) (10 ∷ 12 ∷ 18 ∷ 20 ∷ 30 ∷ 40 ∷ []) 0)
+    -- (20,30) → false: none. (5,25) → 5.
+    ∷ row (Remove Wide 2 W 20 30) (came (accepted (0 ∷ 0 ∷ 2 ∷ []) ∷ []) (10 ∷ 20 ∷ 30 ∷ 40 ∷ []) 0)
+    ∷ row (Remove Wide 2 W 5 25) (came (refusing (refusal.InvalidSegmentBoundary 5 25) ∷ []) (10 ∷ 20 ∷ 30 ∷ 40 ∷ []) 0)
     -- Narrow (4294967296, 4294967296): remove → 4, add → 2. Narrow add (0, 4294967295) is taken.
-    ∷ row (Remove Narrow 1 [] 4294967296 4294967296) (came (largeFileSegmentNotSupported ∷ []) (0 ∷ 0 ∷ []) 0)
-    ∷ row (Add Narrow 1 [] 4294967296 4294967296) (came (emptySegment ∷ []) (0 ∷ 0 ∷ []) 0)
+    ∷ row (Remove Narrow 1 [] 4294967296 4294967296) (came ((refusing refusal.LargeFileSegmentNotSupported) ∷ []) (0 ∷ 0 ∷ []) 0)
+    ∷ row (Add Narrow 1 [] 4294967296 4294967296) (came ((refusing refusal.EmptySegment) ∷ []) (0 ∷ 0 ∷ []) 0)
     ∷ row (Add Narrow 1 [] 0 4294967295) (came (accepted (1 ∷ []) ∷ []) (0 ∷ 4294967295 ∷ []) 0)
     -- coalesce [(30,40), (10,20), (20,30), (12,13)] → [(10,40)].
     ∷ row (Coalesce Wide 4 (range 30 40 ∷ range 10 20 ∷ range 20 30 ∷ range 12 13 ∷ []))
@@ -54,7 +55,7 @@ table =
     (came (known ∷ kept ∷ kept ∷ kept ∷ kept ∷ []) (0 ∷ 0 ∷ 0 ∷ 0 ∷ []) 300)
     -- At capacity 1 the third event is 1; 100–150 then gives [(150,200)].
     ∷ row (Events 1 (Metadata ∷ Data 0 100 ∷ Data 200 100 ∷ Data 120 30 ∷ Data 100 50 ∷ []))
-    (came (known ∷ kept ∷ kept ∷ storeFull ∷ kept ∷ []) (150 ∷ 200 ∷ []) 300)
+    (came (known ∷ kept ∷ kept ∷ (refusing refusal.StoreFull) ∷ kept ∷ []) (150 ∷ 200 ∷ []) 300)
     -- Waiting, notice 50–60: [(0,60)]; metadata; kept 70–80: [(0,70)], progress 80.
     ∷ row (Events 1 (Data 50 10 ∷ [])) (came (noticed ∷ []) (0 ∷ 60 ∷ []) 60)
     ∷ row (Events 1 (Data 50 10 ∷ Metadata ∷ Data 70 10 ∷ [])) (came (noticed ∷ known ∷ kept ∷ []) (0 ∷ 70 ∷ []) 80)

@@ -9,7 +9,8 @@ use borrow.Author.Tests.{lt-ltb, le-ltb, eq-eqb, ne-eqb}
 use Rattle.ranges.specs.Range.{Range, range}
 use Rattle.outcomes.specs.Outcome.{Outcome, accepted}
 use Rattle.outcomes.specs.Checks.{firstOf, NoneOf}
-use Rattle.outcomes.specs.Named.{emptySegment, startLargerThanEnd}
+use Rattle.outcomes.specs.Refusal.{refusing}
+use Rattle.outcomes.specs.declared.Refusal.the-variants as refusal
 use Rattle.outcomes.proofs.FirstOf.{first-none, none-of}
 use Rattle.nak.specs.Request.{isMetadata, checksFrom, requestsChecks, requestOutcome, following, requestsFrom, requestsOutcome}
 
@@ -18,10 +19,10 @@ abbrev pub emptyAt : Bool → ℕ → ℕ → Bool
 emptyAt first s e = eqb s e && not (first && isMetadata (range s e))
 
 -- what a list says where its first request is refused
-pub late-start : {rs qs : List Range} {s e : ℕ} (first : Bool) (behind : Outcome) → rs ≡ range s e ∷ qs → e < s → firstOf (checksFrom first rs) behind ≡ startLargerThanEnd s e
+pub late-start : {rs qs : List Range} {s e : ℕ} (first : Bool) (behind : Outcome) → rs ≡ range s e ∷ qs → e < s → firstOf (checksFrom first rs) behind ≡ refusing (refusal.StartLargerThanEnd s e)
 late-start {s = s} {e = e} first behind q h = rw (q, lt-ltb e s h)
 
-pub empty-one : {rs qs : List Range} {s e : ℕ} (first : Bool) (behind : Outcome) → rs ≡ range s e ∷ qs → s ≤ e → emptyAt first s e ≡ true → firstOf (checksFrom first rs) behind ≡ emptySegment
+pub empty-one : {rs qs : List Range} {s e : ℕ} (first : Bool) (behind : Outcome) → rs ≡ range s e ∷ qs → s ≤ e → emptyAt first s e ≡ true → firstOf (checksFrom first rs) behind ≡ (refusing refusal.EmptySegment)
 empty-one {s = s} {e = e} first behind q h k = rw (q, le-ltb e s h, k)
 
 -- and where it is not
@@ -48,7 +49,7 @@ requests-first first [] = refl
 requests-first first (r ∷ rs) = rw (requests-first false rs) (go (ltb (r .end) (r .start)) (eqb (r .start) (r .end) && not (first && isMetadata r)) _)
   where
     go : (a b : Bool) (next : Outcome)
-        → following (cond a (startLargerThanEnd (r .start) (r .end)) (cond b emptySegment (accepted []))) next ≡ cond a (startLargerThanEnd (r .start) (r .end)) (cond b emptySegment next)
+        → following (cond a (refusing (refusal.StartLargerThanEnd (r .start) (r .end))) (cond b (refusing refusal.EmptySegment) (accepted []))) next ≡ cond a (refusing (refusal.StartLargerThanEnd (r .start) (r .end))) (cond b (refusing refusal.EmptySegment) next)
     go true b next = refl
     go false true next = refl
     go false false next = refl

@@ -13,7 +13,7 @@ use Rattle.ranges.specs.Range.{Range, range}
 use Rattle.octets.specs.declared.LargeFileFlag.{LargeFileFlag}
 use Rattle.nak.specs.declared.Identity.{Identity}
 use Rattle.nak_parser.specs.declared.Parsed.{Parsed}
-use Rattle.outcomes.specs.Named.{lengthMismatch}
+use Rattle.outcomes.specs.declared.Refusal.the-variants as refusal
 use Rattle.outcomes.specs.Refusal.{refusing}
 use Rattle.outcomes.specs.declared.Refusal.{Refusal}
 use Rattle.outcomes.proofs.Refusals.{refuses}
@@ -50,7 +50,7 @@ unfolding parsedOf
 parsed-by p r e = rw (← e, refuses r)
 
 -- of a packet below four octets
-pub short : (p : List ℕ) → length p < 4 → lengthMismatch ≡ readOutcome p
+pub short : (p : List ℕ) → length p < 4 → (refusing refusal.LengthMismatch) ≡ readOutcome p
 unfolding readOutcome
 short p h = rw (lt-ltb (length p) 4 h)
 

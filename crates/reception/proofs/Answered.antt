@@ -13,7 +13,7 @@ use Rattle.ranges.specs.Range.{Range, Covers, Coalesced}
 use Rattle.ranges.specs.Run.{RunsOf}
 use Rattle.ranges.specs.Store.{capacity, limitOf, mostPairs}
 use Rattle.outcomes.specs.Outcome.{Outcome, accepted}
-use Rattle.outcomes.specs.Named.{storeFull, emptySegment, largeFileSegmentNotSupported, rangeTooLong, alreadyKnown}
+use Rattle.outcomes.specs.declared.Refusal.the-variants as refusal
 use Rattle.outcomes.specs.Refusal.{refusing}
 use Rattle.outcomes.specs.Checks.{firstOf}
 use Rattle.outcomes.specs.declared.Refusal.{Refusal}
@@ -39,7 +39,7 @@ told-by-mark m true e = rw e
 told-by-mark m false e = rw e
 
 -- no accepted answer is a refusal
-kept-apart : (c : Bool) → cond c (accepted (1 ∷ [])) (accepted (0 ∷ [])) ≡ storeFull → ⊥
+kept-apart : (c : Bool) → cond c (accepted (1 ∷ [])) (accepted (0 ∷ [])) ≡ (refusing refusal.StoreFull) → ⊥
 kept-apart true e = omega (arith, ap (λ (o : Outcome). o .number) e)
 kept-apart false e = omega (arith, ap (λ (o : Outcome). o .number) e)
 
@@ -78,27 +78,27 @@ module _ (w : Width) (xs : List ℕ) (N : ℕ) (size : length xs ≡ 2 * N) (few
   passed = always-sound w xs N size few es
 
   -- the metadata event is accepted if none was accepted before, and else it is already known
-  pub metadata-answered : outcome before Metadata ≡ cond (metadataCame start es) alreadyKnown (accepted [])
+  pub metadata-answered : outcome before Metadata ≡ cond (metadataCame start es) (refusing refusal.AlreadyKnown) (accepted [])
   metadata-answered =
       sym (behind-record (before .list) (before .rec) passed (markChecks (before .rec)) (accepted []))
       ∙ go (metadataCame start es) (before .rec .missing) (mark-metadata w xs es)
     where
-      go : (c m : Bool) → m ≡ not c → cond (not m) alreadyKnown (accepted []) ≡ cond c alreadyKnown (accepted [])
+      go : (c m : Bool) → m ≡ not c → cond (not m) (refusing refusal.AlreadyKnown) (accepted []) ≡ cond c (refusing refusal.AlreadyKnown) (accepted [])
       go true m e = rw e
       go false m e = rw e
 
   module _ (o z : ℕ) where
     -- a data event of length 0
-    pub empty-refused : z ≡ 0 → outcome before (Data o z) ≡ emptySegment
+    pub empty-refused : z ≡ 0 → outcome before (Data o z) ≡ (refusing refusal.EmptySegment)
     empty-refused e = sym (data-empty (before .rec) (before .list) o z passed e)
 
     module _ (some : z ≡ 0 → ⊥) where
       -- one whose end is above 2^64 - 1
-      pub long-refused : largestNumber < o + z → outcome before (Data o z) ≡ rangeTooLong
+      pub long-refused : largestNumber < o + z → outcome before (Data o z) ≡ (refusing refusal.RangeTooLong)
       long-refused h = sym (data-long (before .rec) (before .list) o z passed some (rw (lt-ltb largestNumber (o + z) h)))
 
       -- one whose end is above the width's limit
-      pub large-refused : o + z ≤ largestNumber → limitOf w < o + z → outcome before (Data o z) ≡ largeFileSegmentNotSupported
+      pub large-refused : o + z ≤ largestNumber → limitOf w < o + z → outcome before (Data o z) ≡ (refusing refusal.LargeFileSegmentNotSupported)
       large-refused s h = sym (data-large (before .rec) (before .list) o z passed some (rw (le-ltb largestNumber (o + z) s)) (rw (width-same w xs es) h))
 
       -- the list that the event would leave
@@ -152,7 +152,7 @@ module _ (w : Width) (xs : List ℕ) (N : ℕ) (size : length xs ≡ 2 * N) (few
         fits : isTooLong o z ≡ false
         fits = rw (le-ltb largestNumber (o + z) short)
 
-        full : N < length rs → outcome before (Data o z) ≡ storeFull
+        full : N < length rs → outcome before (Data o z) ≡ (refusing refusal.StoreFull)
         full h = sym (data-full (before .rec) (before .list) o z passed some fits below (rw (lt-ltb (capacity (before .list)) (length would) (omega (arith, room, as-long)))))
 
         enough : length rs ≤ N → outcome before (Data o z) ≡ keptOrNoticed start es
@@ -161,10 +161,10 @@ module _ (w : Width) (xs : List ℕ) (N : ℕ) (size : length xs ≡ 2 * N) (few
             ∙ told-by-mark (before .rec .missing) (metadataCame start es) (mark-metadata w xs es)
 
         -- it is refused with 1 exactly if there are more than N
-        pub room-full : (outcome before (Data o z) ≡ storeFull) ↔ (N < length rs)
+        pub room-full : (outcome before (Data o z) ≡ (refusing refusal.StoreFull)) ↔ (N < length rs)
         room-full = (λ e. go e (decLt N (length rs)), full)
           where
-            go : outcome before (Data o z) ≡ storeFull → Dec (N < length rs) → N < length rs
+            go : outcome before (Data o z) ≡ (refusing refusal.StoreFull) → Dec (N < length rs) → N < length rs
             go e (yes h) = h
             go e (no h) = absurd (kept-apart (metadataCame start es) (sym (enough (omega arith)) ∙ e))
 

@@ -10,7 +10,6 @@ use Rattle.ranges.specs.Without.{without}
 use Rattle.outcomes.specs.Outcome.{Outcome, accepted, lent}
 use Rattle.outcomes.specs.Refusal.{refusing}
 use Rattle.outcomes.specs.Checks.{Check, firstOf}
-use Rattle.outcomes.specs.Named.{storeFull}
 use Rattle.outcomes.specs.declared.Refusal.the-variants as refusal
 use Rattle.reception.specs.declared.Reception.{Reception}
 use Rattle.reception.specs.declared.data.DataAnswer.{DataAnswer}
@@ -73,7 +72,7 @@ dataChecks rec xs offset size = recordChecks rec xs ++ segmentChecks rec offset 
 -- Behind them: 1. Accepted, it answers 0 while waiting, noticed, and else 1, kept.
 abbrev pub roomOutcome : Reception → List ℕ → ℕ → ℕ → Outcome
 roomOutcome rec xs offset size =
-    cond (isFull (capacity xs) (dataLeaves rec xs offset size)) storeFull
+    cond (isFull (capacity xs) (dataLeaves rec xs offset size)) (refusing refusal.StoreFull)
     (cond (rec .missing) (accepted (0 ∷ [])) (accepted (1 ∷ [])))
 
 abbrev pub dataOutcome : Reception → List ℕ → ℕ → ℕ → Outcome

@@ -1,4 +1,5 @@
--- remove takes the offsets of (a, b) out of a coalesced list (document 01, "Ranges and the store").
+-- remove takes the offsets of (a, b) out of a coalesced list (document 01, "Ranges and the store") and says what it did (document
+-- 02, C-16).
 use Prim.Native.Nat.{ℕ, _≤_, _<_}
 use mathlib.Core.Path.{_≡_}
 use mathlib.Core.Bool.{false, not, cond}

@@ -7,7 +7,7 @@ use Rattle.ranges.specs.Store.{capacity, stored}
 use Rattle.outcomes.specs.Outcome.{Outcome, accepted, lent}
 use Rattle.outcomes.specs.Refusal.{refusing}
 use Rattle.outcomes.specs.Checks.{NoneOf}
-use Rattle.outcomes.specs.Named.{storeFull}
+use Rattle.outcomes.specs.declared.Refusal.the-variants as refusal
 use Rattle.outcomes.specs.declared.Refusal.{Refusal}
 use Rattle.outcomes.proofs.Refusals.{lent-refused}
 use Rattle.outcomes.proofs.FirstOf.{first-none}
@@ -52,8 +52,8 @@ module _ (rec : Reception) (xs : List ℕ) (offset size : ℕ) where
     from : (o : Outcome) → o ≡ roomOutcome rec xs offset size → o ≡ dataOutcome rec xs offset size
     from o e = e ∙ sym (first-none (dataChecks rec xs offset size) (roomOutcome rec xs offset size) n)
 
-    pub no-room : isFull (capacity xs) (dataLeaves rec xs offset size) ≡ true → storeFull ≡ dataOutcome rec xs offset size
-    no-room h = from storeFull (rw h)
+    pub no-room : isFull (capacity xs) (dataLeaves rec xs offset size) ≡ true → (refusing refusal.StoreFull) ≡ dataOutcome rec xs offset size
+    no-room h = from (refusing refusal.StoreFull) (rw h)
 
     pub has-room : (m : Bool) → rec .missing ≡ m → isFull (capacity xs) (dataLeaves rec xs offset size) ≡ false → mark m ≡ dataOutcome rec xs offset size
     has-room true e h = from (accepted (0 ∷ [])) (rw (h, e))

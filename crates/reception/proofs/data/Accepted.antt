@@ -10,7 +10,8 @@ use Rattle.ranges.specs.Range.{Range}
 use Rattle.ranges.specs.Store.{capacity, limitOf}
 use Rattle.outcomes.specs.Outcome.{accepted}
 use Rattle.outcomes.specs.Checks.{NoneOf}
-use Rattle.outcomes.specs.Named.{storeFull}
+use Rattle.outcomes.specs.Refusal.{refusing}
+use Rattle.outcomes.specs.declared.Refusal.the-variants as refusal
 use Rattle.outcomes.proofs.FirstOf.{first-accepted}
 use Rattle.reception.specs.Record.{recordChecks, Passed}
 use Rattle.reception.specs.declared.Reception.{Reception}
@@ -35,7 +36,7 @@ pub record Taken (rec : Reception) (xs : List ℕ) (offset size : ℕ) : Type 0 
   pub free : isFull (capacity xs) (dataLeaves rec xs offset size) ≡ false
   pub room : length (dataLeaves rec xs offset size) ≤ capacity xs
 
-has-room : (t m : Bool) → eqb (cond t storeFull (cond m (accepted (0 ∷ [])) (accepted (1 ∷ []))) .number) 0 ≡ true → t ≡ false
+has-room : (t m : Bool) → eqb (cond t (refusing refusal.StoreFull) (cond m (accepted (0 ∷ [])) (accepted (1 ∷ []))) .number) 0 ≡ true → t ≡ false
 has-room true m e = absurd (true≢false (sym e))
 has-room false m e = refl
 

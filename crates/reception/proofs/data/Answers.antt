@@ -7,7 +7,8 @@ use borrow.Author.Tests.{eq-eqb, ne-eqb, lt-ltb, le-ltb}
 use Rattle.ranges.specs.Store.{capacity, limitOf}
 use Rattle.outcomes.specs.Outcome.{Outcome, accepted}
 use Rattle.outcomes.specs.Checks.{firstOf}
-use Rattle.outcomes.specs.Named.{storeFull, emptySegment, largeFileSegmentNotSupported, rangeTooLong}
+use Rattle.outcomes.specs.Refusal.{refusing}
+use Rattle.outcomes.specs.declared.Refusal.the-variants as refusal
 use Rattle.reception.specs.Record.{Passed}
 use Rattle.reception.specs.declared.Reception.{Reception}
 use Rattle.reception.specs.Data.{dataLeaves, isTooLong, isFull, segmentChecks, roomOutcome, dataOutcome}
@@ -18,20 +19,20 @@ module _ (rec : Reception) (xs : List ℕ) (offset size : ℕ) where
     from : (o : Outcome) → o ≡ firstOf (segmentChecks rec offset size) (roomOutcome rec xs offset size) → o ≡ dataOutcome rec xs offset size
     from o e = e ∙ behind-record xs rec p (segmentChecks rec offset size) (roomOutcome rec xs offset size)
 
-    pub data-empty : size ≡ 0 → emptySegment ≡ dataOutcome rec xs offset size
-    data-empty h = from emptySegment (rw (eq-eqb size 0 h))
+    pub data-empty : size ≡ 0 → (refusing refusal.EmptySegment) ≡ dataOutcome rec xs offset size
+    data-empty h = from (refusing refusal.EmptySegment) (rw (eq-eqb size 0 h))
 
     module _ (n : size ≡ 0 → ⊥) where
-      pub data-long : isTooLong offset size ≡ true → rangeTooLong ≡ dataOutcome rec xs offset size
-      data-long h = from rangeTooLong (rw (ne-eqb size 0 n, h))
+      pub data-long : isTooLong offset size ≡ true → (refusing refusal.RangeTooLong) ≡ dataOutcome rec xs offset size
+      data-long h = from (refusing refusal.RangeTooLong) (rw (ne-eqb size 0 n, h))
 
       module _ (s : isTooLong offset size ≡ false) where
-        pub data-large : limitOf (rec .width) < offset + size → largeFileSegmentNotSupported ≡ dataOutcome rec xs offset size
-        data-large h = from largeFileSegmentNotSupported (rw (ne-eqb size 0 n, s, lt-ltb _ _ h))
+        pub data-large : limitOf (rec .width) < offset + size → (refusing refusal.LargeFileSegmentNotSupported) ≡ dataOutcome rec xs offset size
+        data-large h = from (refusing refusal.LargeFileSegmentNotSupported) (rw (ne-eqb size 0 n, s, lt-ltb _ _ h))
 
         module _ (t : offset + size ≤ limitOf (rec .width)) where
-          pub data-full : isFull (capacity xs) (dataLeaves rec xs offset size) ≡ true → storeFull ≡ dataOutcome rec xs offset size
-          data-full h = from storeFull (rw (ne-eqb size 0 n, s, le-ltb _ _ t, h))
+          pub data-full : isFull (capacity xs) (dataLeaves rec xs offset size) ≡ true → (refusing refusal.StoreFull) ≡ dataOutcome rec xs offset size
+          data-full h = from (refusing refusal.StoreFull) (rw (ne-eqb size 0 n, s, le-ltb _ _ t, h))
 
           pub data-taken : isFull (capacity xs) (dataLeaves rec xs offset size) ≡ false
               → cond (rec .missing) (accepted (0 ∷ [])) (accepted (1 ∷ [])) ≡ dataOutcome rec xs offset size
