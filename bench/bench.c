@@ -216,20 +216,23 @@ static void add(size_t n)
     end(answer.first);
 }
 
-static void remove_from(size_t n, uint64_t s, uint64_t e, uint64_t yes)
+// What the port says of a removal; the Rust says true of all but none.
+enum { NONE = 0, WHOLE = 1, SPLIT = 4 };
+
+static void remove_from(size_t n, uint64_t s, uint64_t e, uint64_t what, uint64_t index)
 {
     ascending(n);
     begin();
     BOTH(answer = pusmarke_remove(list, NUMBERS, count, narrow, s, e), said = rust_remove(store, s, e));
-    same(said == yes && answer.first == yes, "answer");
-    end(yes ? answer.second : count);
+    same(said == (what != NONE) && answer.first == what && answer.second == index, "answer");
+    end(answer.third);
 }
 
-static void remove_first(size_t n) { remove_from(n, start_of(0), end_of(0), 1); }
-static void remove_middle(size_t n) { remove_from(n, start_of(n / 2), end_of(n / 2), 1); }
-static void remove_last(size_t n) { remove_from(n, start_of(n - 1), end_of(n - 1), 1); }
-static void remove_split(size_t n) { remove_from(n - 1, start_of(n / 2) + 2, end_of(n / 2) - 2, 1); }
-static void remove_miss(size_t n) { remove_from(n, end_of(n / 2) + 1, end_of(n / 2) + 3, 0); }
+static void remove_first(size_t n) { remove_from(n, start_of(0), end_of(0), WHOLE, 0); }
+static void remove_middle(size_t n) { remove_from(n, start_of(n / 2), end_of(n / 2), WHOLE, n / 2); }
+static void remove_last(size_t n) { remove_from(n, start_of(n - 1), end_of(n - 1), WHOLE, n - 1); }
+static void remove_split(size_t n) { remove_from(n - 1, start_of(n / 2) + 2, end_of(n / 2) - 2, SPLIT, n / 2); }
+static void remove_miss(size_t n) { remove_from(n, end_of(n / 2) + 1, end_of(n / 2) + 3, NONE, 0); }
 
 static void coalesce(size_t n, void (*fill)(size_t))
 {

@@ -1,5 +1,5 @@
 #!/usr/bin/env python3
-"""A model of the console, written from document 01 and the console's language alone.
+"""A model of the console, written from document 01, document 02's C-16 and the console's language alone.
 
     model.py [SCRIPT]      answers the script (or standard input) as the program must
     model.py --self-test   holds the interval algebra against plain sets of offsets
@@ -61,6 +61,16 @@ def minus(pairs, a, b):
 def shares(s, e, a, b):
     """Have (s, e) and (a, b) an offset in common?"""
     return max(s, a) < min(e, b)
+
+
+def leaving(s, e, a, b):
+    """Which part of (s, e) leaves with (a, b), which lies inside it: named by what leaves, not by what stays."""
+    stays_before, stays_behind = s < a, b < e
+    if stays_before and stays_behind:
+        return 'split'
+    if stays_behind:
+        return 'left'
+    return 'right' if stays_before else 'whole'
 
 
 def is_coalesced(pairs):
@@ -245,14 +255,15 @@ class Console:
         if not is_coalesced(pairs):
             raise Refused(8)
         if not any(shares(s, e, a, b) for s, e in pairs):
-            return f'removed false {self.count}'
-        if not any(s <= a and b <= e for s, e in pairs):
+            return f'removed none {self.count}'
+        inside = [index for index, (s, e) in enumerate(pairs) if s <= a and b <= e]
+        if not inside:
             raise Refused(5, a, b)
         left = minus(pairs, a, b)
         if len(left) > self.capacity():
             raise Refused(1)
         self.put(left)
-        return f'removed true {self.count}'
+        return f'removed {leaving(*pairs[inside[0]], a, b)} {inside[0]} {self.count}'
 
     def coalesce(self):
         self.put(runs(self.pairs()))
@@ -439,6 +450,27 @@ def spans(members):
             for x in sorted(members) if x - 1 not in members]
 
 
+def removal(pairs, a, b):
+    """What the console answers, and the list that it leaves."""
+    console = Console()
+    console.put(pairs)
+    [answer] = console.line(1, f'remove {a} {b}')
+    return answer, console.pairs()
+
+
+def removal_of_sets(members, a, b):
+    """C-16 said of a set: what stays on either side of (a, b), and how many runs begin before the run it lies in."""
+    asked = set(range(a, b))
+    left = spans(members - asked)
+    if not asked & members:
+        return f'removed none {len(left)}', left
+    if not asked <= members:
+        return f'refused 5 {a} {b}', spans(members)
+    what = {(False, False): 'whole', (False, True): 'left', (True, False): 'right', (True, True): 'split'}
+    index = sum(x - 1 not in members for x in members if x <= a) - 1
+    return f'removed {what[a - 1 in members, b in members]} {index} {len(left)}', left
+
+
 def self_test():
     import itertools
     small = [(s, e) for s in range(5) for e in range(5)]
@@ -454,6 +486,8 @@ def self_test():
         for a, b in itertools.combinations(range(9), 2):
             asked = set(range(a, b))
             assert minus(pairs, a, b) == spans(members - asked), (pairs, a, b)
+            assert removal(pairs, a, b) == removal_of_sets(members, a, b), (pairs, a, b)
+            done += 1
             for progress in range(pairs[-1][1] if pairs else 0, 9):
                 console = Console()
                 console.begin(False, 4096)

@@ -1,8 +1,8 @@
 """Makes the fixed sample that the gate replays (run it by `compare --sample`): crates/pusmarke/data/sample.script and
 the answers, crates/pusmarke/stdout.
 
-The answers to the part `store` are the Rust's; those to the other parts are the model's. The same sources give the
-same octets.
+The answers to the part `store` are the Rust's, and the model's where the Rust says less (what a removal did, and at which
+index); those to the other parts are the model's. The same sources give the same octets.
 """
 import itertools
 import os
@@ -76,7 +76,10 @@ SEQUENCE_EXAMPLES = [
 
 def store(rng):
     """Store calls that reach every answer the Rust can give."""
-    out = list(STORE_EXAMPLES)
+    out = [*STORE_EXAMPLES, '# Document 02, C-16: each part of each range, with one, two and three ranges, both widths.']
+    for block in scripts.store_remove_places(rng):
+        if int(block[0].split(' ')[2]) <= 4:
+            out += block
     removes = [(w, room, bits, a, b) for w in WIDTHS for room in (0, 1) for bits in range(64)
                for a, b in itertools.product(range(8), repeat=2) if a <= b or a == b + 1]
     for width, room, bits, a, b in rng.sample(removes, 380):
@@ -185,7 +188,7 @@ def console(rng):
 
 
 REACHED = {
-    'store': scripts.RUST_REACH,
+    'store': {**scripts.RUST_REACH, 'remove': scripts.REACH['remove'] - {8, 10}},
     'codec': {name: scripts.REACH[name] for name in ('write', 'read')},
     'reception': {name: scripts.REACH[name] for name in ('data', 'metadata')},
     'sequence': {'nak': scripts.REACH['nak'] - {8, 10, 12}},
@@ -200,7 +203,7 @@ def judged_by(rust, run, lines):
     said = dict(zip(expected, run(rust, scripts.text(lines))))
     lines = [line for at, line in enumerate(lines, 1) if said.get(at) != 'outside']
     answers = run(rust, scripts.text(lines))
-    if 'outside' in answers or answers != flat(model.answers(scripts.text(lines))):
+    if 'outside' in answers or answers != in_the_rusts_words(flat(model.answers(scripts.text(lines)))):
         return lines, None
     return lines, answers
 
@@ -209,9 +212,12 @@ def flat(answers):
     return [a for _, answer in answers for a in answer]
 
 
+def in_the_rusts_words(answers):
+    return [scripts.as_the_rust(answer) for answer in answers]
+
+
 def unreached(name, lines):
-    met = {((lines[at - 1].split() or [''])[0], scripts.kind(a))
-           for at, answer in model.answers(scripts.text(lines)) for a in answer}
+    met = set(scripts.met(lines, model.answers(scripts.text(lines))))
     return sorted(f'{call} {what}' for call, all_ in REACHED[name].items() for what in all_ if (call, what) not in met)
 
 
@@ -242,7 +248,8 @@ def make(rust, run):
         script += [f'# Part {name}.', *lines]
     script = scripts.text(script + ['# The last line has no newline.', 'show'])[:-1]
     answers = flat(model.answers(script))
-    if from_rust is not None and not any(answers[at:at + len(from_rust)] == from_rust for at in range(len(answers))):
+    told = in_the_rusts_words(answers)
+    if from_rust is not None and not any(told[at:at + len(from_rust)] == from_rust for at in range(len(told))):
         amiss.append('store: the answers are not those that the Rust gives')
     put(SCRIPT, script)
     put(ANSWERS, scripts.text(answers))

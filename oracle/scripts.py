@@ -61,13 +61,29 @@ def ascending(rng, n, low, high):
 
 def store_remove_small(rng):
     """remove, every pair from 0 to 9 on every coalesced list of the offsets 0 to 7, full and with
-    room for one more, both widths: true by each of the four ways, false, 1, 2, 3, 5."""
+    room for one more, both widths: whole, left, right, split, none, 1, 2, 3, 5."""
     for width, room in itertools.product(WIDTHS, (0, 1)):
         for bits in range(2**8):
             pairs = spans(bits)
             block = [words('new', width, len(pairs) + room)]
             for a, b in itertools.product(range(10), repeat=2):
                 block += [*set_list(pairs), words('remove', a, b), 'show']
+            yield block
+
+
+def store_remove_places(rng):
+    """remove of each part of each range (whole, left, right, split) and of the hole before it, on lists of 1, 2, 3,
+    9 and 32 ranges from 0, around 2^32 and up to the width's largest number, full and with room, both widths: so each
+    answer at the first, a middle and the last index."""
+    for width, n, room in itertools.product(WIDTHS, (1, 2, 3, 9, 32), (0, 1)):
+        most = NARROW if width == 'narrow' else TOP
+        for top in (5 * n, NARROW) if most == NARROW else (5 * n, NARROW + 3 * n, TOP):
+            pairs = [(top - 5 * i - 4, top - 5 * i) for i in reversed(range(n))]
+            block = [words('new', width, n + room)]
+            for s, e in pairs:
+                for a, b in ((s, e), (s, s + 1), (s, e - 1), (s + 1, e), (e - 1, e), (s + 1, e - 1), (s + 2, s + 3),
+                             (s - 1, s)):
+                    block += [*set_list(pairs), words('remove', a, b), 'show']
             yield block
 
 
@@ -660,15 +676,20 @@ def nonsense(rng):
         yield block
 
 
-STORE = [store_remove_small, store_coalesce_small, store_add_within_small, store_octets_small, store_edges,
+STORE = [store_remove_places, store_remove_small, store_coalesce_small, store_add_within_small, store_octets_small, store_edges,
          store_lists, store_broken, store_history]
 REST = [events_small, records_small, records_edges, events_history, events_wide_lists, records_broken, pdus_lengths,
         pdus_limits, pdus_written, pdus_read, sequences_runs, sequences_any, nonsense]
 
+# What a removal did (document 02, C-16), and by how many ranges the list grew.
+GREW = {'whole': -1, 'left': 0, 'right': 0, 'split': 1}
+REMOVED = {*(f'removed {what} {place} {width}' for what in GREW for place in ('only', 'first', 'middle', 'last')
+             for width in WIDTHS), *(f'removed none {width}' for width in WIDTHS)}
+
 # What a full run must meet at least once: by command, first words of answers and refusal numbers.
 REACH = {
     'add': {'added', 1, 2, 3, 4, 10},
-    'remove': {'removed true', 'removed false', 1, 2, 3, 4, 5, 8, 10},
+    'remove': REMOVED | {1, 2, 3, 4, 5, 8, 10},
     'coalesce': {'coalesced', 10},
     'within': {'yes', 'no', 10},
     'octets': {'octets', 6, 7, 10},
@@ -692,9 +713,32 @@ def kind(answer):
     parts = answer.split(' ')
     if parts[0] == 'refused':
         return int(parts[1])
+    if parts[0] == 'removed' and parts[1] in GREW:
+        index, last = int(parts[2]), int(parts[3]) - GREW[parts[1]] - 1
+        place = 'only' if last == 0 else 'first' if index == 0 else 'last' if index == last else 'middle'
+        return f'removed {parts[1]} {place}'
     if parts[0] == 'removed':
         return ' '.join(parts[:2])
     return parts[0]
+
+
+def met(lines, expected):
+    """(command, kind) of each answer to these lines; of a removal with the store's width."""
+    width = 'wide'
+    for at, answer in expected:
+        parts = lines[at - 1].split() or ['']
+        if parts[0] == 'new' and answer == ['ok']:
+            width = parts[1]
+        for said in answer:
+            yield parts[0], f'{kind(said)} {width}' if said.startswith('removed ') else kind(said)
+
+
+def as_the_rust(answer):
+    """The answer in the Rust's words: its remove says true for whole, left, right and split, and false for none."""
+    parts = answer.split(' ')
+    if parts[0] == 'removed':
+        return f'removed {"false" if parts[1] == "none" else "true"} {parts[-1]}'
+    return answer
 
 
 def blocks(generator, seed):

@@ -37,13 +37,44 @@ static void is(int line, struct pusmarke_answer a, uint64_t refusal, uint64_t fi
 static uint64_t long_list[2 * PAIRS];
 static uint8_t large_buffer[16 * 4096];
 
+/* Each part of the first, the middle and the last of three pairs, on wide and narrow stores. */
+static void removals(void) {
+    static const uint64_t was[8] = {10, 20, 30, 40, 50, 60, 7, 8};
+    static const struct {
+        uint64_t start, end, what, place, count, left[8];
+    } cases[] = {
+        {10, 20, PUSMARKE_REMOVED_WHOLE, 0, 2, {30, 40, 50, 60, 0, 0, 7, 8}},
+        {30, 40, PUSMARKE_REMOVED_WHOLE, 1, 2, {10, 20, 50, 60, 0, 0, 7, 8}},
+        {50, 60, PUSMARKE_REMOVED_WHOLE, 2, 2, {10, 20, 30, 40, 0, 0, 7, 8}},
+        {10, 15, PUSMARKE_REMOVED_LEFT, 0, 3, {15, 20, 30, 40, 50, 60, 7, 8}},
+        {30, 31, PUSMARKE_REMOVED_LEFT, 1, 3, {10, 20, 31, 40, 50, 60, 7, 8}},
+        {50, 59, PUSMARKE_REMOVED_LEFT, 2, 3, {10, 20, 30, 40, 59, 60, 7, 8}},
+        {15, 20, PUSMARKE_REMOVED_RIGHT, 0, 3, {10, 15, 30, 40, 50, 60, 7, 8}},
+        {39, 40, PUSMARKE_REMOVED_RIGHT, 1, 3, {10, 20, 30, 39, 50, 60, 7, 8}},
+        {51, 60, PUSMARKE_REMOVED_RIGHT, 2, 3, {10, 20, 30, 40, 50, 51, 7, 8}},
+        {12, 18, PUSMARKE_REMOVED_SPLIT, 0, 4, {10, 12, 18, 20, 30, 40, 50, 60}},
+        {31, 39, PUSMARKE_REMOVED_SPLIT, 1, 4, {10, 20, 30, 31, 39, 40, 50, 60}},
+        {55, 56, PUSMARKE_REMOVED_SPLIT, 2, 4, {10, 20, 30, 40, 50, 55, 56, 60}},
+        {0, 10, PUSMARKE_REMOVED_NONE, 0, 3, {10, 20, 30, 40, 50, 60, 7, 8}},
+        {40, 50, PUSMARKE_REMOVED_NONE, 0, 3, {10, 20, 30, 40, 50, 60, 7, 8}},
+    };
+    uint64_t list[8], narrow;
+    size_t i;
+
+    for (narrow = 0; narrow < 2; narrow++) {
+        for (i = 0; i < sizeof cases / sizeof cases[0]; i++) {
+            memcpy(list, was, sizeof was);
+            ACCEPTED(pusmarke_remove(list, 8, 3, narrow, cases[i].start, cases[i].end), cases[i].what, cases[i].place, cases[i].count);
+            SAME(cases[i].left, list);
+        }
+    }
+}
+
 static void store(void) {
     uint64_t list[6] = {10, 20, 30, 40, 7, 8};
     const uint64_t was[6] = {10, 20, 30, 40, 7, 8};
     const uint64_t added[6] = {10, 20, 30, 40, 50, 60};
     const uint64_t split[6] = {10, 12, 18, 20, 30, 40};
-    const uint64_t gone[6] = {30, 40, 0, 0, 7, 8};
-    const uint64_t left[6] = {15, 20, 30, 40, 7, 8};
     const uint64_t apart[8] = {30, 40, 10, 20, 20, 30, 12, 13};
     const uint64_t run[8] = {10, 40, 0, 0, 0, 0, 0, 0};
     const uint64_t wide[4] = {1, 2, 3, 4294967296u};
@@ -81,17 +112,11 @@ static void store(void) {
     REFUSED(pusmarke_remove(list, 6, 3, 0, 12, 18), PUSMARKE_NOT_COALESCED);
     CARRIES(pusmarke_remove(list, 6, 2, 0, 5, 25), PUSMARKE_INVALID_SEGMENT_BOUNDARY, 5, 25);
     REFUSED(pusmarke_remove(list, 4, 2, 0, 12, 18), PUSMARKE_STORE_FULL);
-    ACCEPTED(pusmarke_remove(list, 6, 2, 0, 20, 30), 0, 0, 0);
-    ACCEPTED(pusmarke_remove(NULL, 0, 0, 0, 20, 30), 0, 0, 0);
+    ACCEPTED(pusmarke_remove(list, 6, 2, 0, 20, 30), PUSMARKE_REMOVED_NONE, 0, 2);
+    ACCEPTED(pusmarke_remove(NULL, 0, 0, 0, 20, 30), PUSMARKE_REMOVED_NONE, 0, 0);
     SAME(was, list);
-    ACCEPTED(pusmarke_remove(list, 6, 2, 0, 12, 18), 1, 3, 0);
+    ACCEPTED(pusmarke_remove(list, 6, 2, 0, 12, 18), PUSMARKE_REMOVED_SPLIT, 0, 3);
     SAME(split, list);
-    memcpy(list, was, sizeof was);
-    ACCEPTED(pusmarke_remove(list, 6, 2, 0, 10, 20), 1, 1, 0);
-    SAME(gone, list);
-    memcpy(list, was, sizeof was);
-    ACCEPTED(pusmarke_remove(list, 6, 2, 0, 10, 15), 1, 2, 0);
-    SAME(left, list);
 
     /* coalesce */
     memcpy(other, apart, sizeof apart);
@@ -426,6 +451,7 @@ static void transfer(void) {
 
 int main(void) {
     store();
+    removals();
     events();
     writing();
     reading();

@@ -47,6 +47,15 @@ enum pusmarke_refusal {
     PUSMARKE_BUDGET_TOO_LARGE = 20
 };
 
+/* What a removal did: `first` of an accepted pusmarke_remove. The part is the one that leaves. */
+enum pusmarke_removed {
+    PUSMARKE_REMOVED_NONE = 0,  /* no counted pair had any of the offsets */
+    PUSMARKE_REMOVED_WHOLE = 1, /* the whole pair */
+    PUSMARKE_REMOVED_LEFT = 2,  /* the left part of the pair, from its start on */
+    PUSMARKE_REMOVED_RIGHT = 3, /* the right part, up to its end */
+    PUSMARKE_REMOVED_SPLIT = 4  /* a part in the middle: the pair became two */
+};
+
 /* What a call answers: 0 or the refusal's number, and its values in order, 0 where there is none. */
 struct pusmarke_answer {
     uint64_t refusal;
@@ -106,8 +115,9 @@ struct pusmarke_answer pusmarke_add(uint64_t *list, size_t list_length, size_t c
     uint64_t end);
 
 /* Takes the offsets of (start, end) out of a coalesced list: each pair nonempty, each start above the end before it.
- * Accepted: first is 1 and second the new count where (start, end) lies inside one pair: the whole pair, a part of it or its middle
- * leaves. First is 0 where it shares no offset with any pair, and nothing changes.
+ * Accepted: first is what happened, an enum pusmarke_removed, and third the count afterwards. Where (start, end) lies inside one pair,
+ * first is 1 to 4 by the part that leaves, and second that pair's place, from 0, in the list before. Where it shares no offset with any
+ * pair, first and second are 0, and nothing changes.
  * Refusals: 10; 4 narrow, and either number above 4,294,967,295; 2 start equals end; 3 start above end; 8 list not coalesced; 5
  * (start, end) shares an offset with some pair and lies inside none; 1 a split, and count equals capacity. */
 struct pusmarke_answer pusmarke_remove(uint64_t *list, size_t list_length, size_t count, uint64_t narrow, uint64_t start,

@@ -21,4 +21,4 @@ pub use nak::{write_nak, FileFlag, NakReader};
 pub use reception::{Data, Reception};
 pub use refusal::Refusal;
 pub use sequence::{NakSequence, Sent};
-pub use store::{Segments, Store, Width};
+pub use store::{Removed, Segments, Store, Width};

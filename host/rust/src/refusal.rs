@@ -145,7 +145,7 @@ impl fmt::Display for Refusal {
             Refusal::ScopeReversed => f.write_str("scope start is above scope end"),
             Refusal::AlreadyKnown => f.write_str("metadata is known already"),
             Refusal::BudgetTooLarge => f.write_str("budget is above 16 PDUs"),
-            Refusal::Unknown(number) => write!(f, "refusal {number}, which this crate does not know"),
+            Refusal::Unknown(number) => write!(f, "number {number}, which this crate does not know"),
         }
     }
 }

@@ -54,8 +54,66 @@ impl Iterator for Segments<'_> {
 
 impl ExactSizeIterator for Segments<'_> {}
 
+/// What a removal did. A part is the one that leaves; `index` is the range's place, from 0, in the list before, and `count` how many
+/// ranges are stored afterwards.
+#[derive(Clone, Copy, Debug, PartialEq, Eq)]
+pub enum Removed {
+    /// No stored range had any of the offsets, and nothing changed.
+    None {
+        /// How many ranges are stored.
+        count: usize,
+    },
+    /// The whole range left.
+    Whole {
+        /// The range's place in the list before.
+        index: usize,
+        /// How many ranges are stored afterwards.
+        count: usize,
+    },
+    /// The left part of the range left, from its start on.
+    Left {
+        /// The range's place in the list before.
+        index: usize,
+        /// How many ranges are stored afterwards.
+        count: usize,
+    },
+    /// The right part of the range left, up to its end.
+    Right {
+        /// The range's place in the list before.
+        index: usize,
+        /// How many ranges are stored afterwards.
+        count: usize,
+    },
+    /// A part in the middle left: the range became two.
+    Split {
+        /// The range's place in the list before.
+        index: usize,
+        /// How many ranges are stored afterwards.
+        count: usize,
+    },
+}
+
+impl Removed {
+    /// What a number of the header's `enum pusmarke_removed` stands for, with the index and the count. Refused: another number.
+    pub fn of(what: u64, index: usize, count: usize) -> Result<Removed, Refusal> {
+        match what {
+            0 => Ok(Removed::None { count }),
+            1 => Ok(Removed::Whole { index, count }),
+            2 => Ok(Removed::Left { index, count }),
+            3 => Ok(Removed::Right { index, count }),
+            4 => Ok(Removed::Split { index, count }),
+            other => Err(Refusal::Unknown(other)),
+        }
+    }
+
+    /// Whether offsets left: what cfdp-rs's `remove_lost_segment` answers.
+    pub fn is_some(self) -> bool {
+        !matches!(self, Removed::None { .. })
+    }
+}
+
 /// A store of lost segments over a flat list of pairs that the caller lends: start and end by turns. The methods are those of
-/// cfdp-rs's `LostSegmentStore`.
+/// cfdp-rs's `LostSegmentStore`; removing says more than whether it did.
 #[derive(Debug)]
 pub struct Store<'a> {
     list: &'a mut [u64],
@@ -128,17 +186,15 @@ impl<'a> Store<'a> {
         Ok(())
     }
 
-    /// Takes the offsets of a range out of a coalesced list; says whether it had them. Refused: 4, 2, 3, 8, 5 and 1.
-    pub fn remove_lost_segment(&mut self, segment_to_remove: (u64, u64)) -> Result<bool, Refusal> {
+    /// Takes the offsets of a range out of a coalesced list; says which part of which stored range left. Refused: 4, 2, 3, 8, 5
+    /// and 1.
+    pub fn remove_lost_segment(&mut self, segment_to_remove: (u64, u64)) -> Result<Removed, Refusal> {
         let (start, end) = segment_to_remove;
         let answer =
             unsafe { ffi::pusmarke_remove(self.list.as_mut_ptr(), self.list.len(), self.count, self.width.mark(), start, end) };
         let answer = answer.accepted()?;
-        if answer.first == 0 {
-            return Ok(false);
-        }
-        self.count = answer.second as usize;
-        Ok(true)
+        self.count = answer.third as usize;
+        Removed::of(answer.first, answer.second as usize, self.count)
     }
 
     /// Leaves the maximal runs of the stored ranges, ascending; a range with its end at most its start is dropped. Never refused.

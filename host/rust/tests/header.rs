@@ -1,6 +1,7 @@
 //! The declarations of src/ffi.rs are those of host/include/pusmarke.h: functions with their argument types in order, and structs with
-//! their fields. The refusals of the crate and of the header are those of the definition, by number and name.
-use pusmarke::Refusal;
+//! their fields. The refusals of the crate and of the header are those of the definition, by number and name;
+//! what a removal did has the same numbers in both.
+use pusmarke::{Refusal, Removed};
 use std::{collections::BTreeMap, fs, path::Path};
 
 fn text(path: &str) -> String {
@@ -123,12 +124,12 @@ fn camel(name: &str) -> String {
     name.split('_').map(|w| w[..1].to_string() + &w[1..].to_lowercase()).collect()
 }
 
-/// The refusals of the header's enum, by number.
-fn refusals_of_c(text: &str) -> BTreeMap<u64, String> {
-    let body = text.split_once("PUSMARKE_ACCEPTED = 0,").unwrap().1.split_once('}').unwrap().0;
+/// The names of an enum of the header, by number, without what they all begin with.
+fn names_of_c(text: &str, name: &str, prefix: &str) -> BTreeMap<u64, String> {
+    let body = text.split_once(&format!("enum {name} {{")).unwrap().1.split_once('}').unwrap().0;
     body.split(',')
         .map(|l| l.trim().split_once(" = ").unwrap())
-        .map(|(name, number)| (number.parse().unwrap(), camel(name.strip_prefix("PUSMARKE_").unwrap())))
+        .map(|(name, number)| (number.parse().unwrap(), camel(name.strip_prefix(prefix).unwrap())))
         .collect()
 }
 
@@ -143,7 +144,8 @@ fn refusals_of_the_definition(text: &str) -> BTreeMap<u64, String> {
 
 #[test]
 fn refusals() {
-    let c = refusals_of_c(&bare(&text("../include/pusmarke.h")));
+    let mut c = names_of_c(&bare(&text("../include/pusmarke.h")), "pusmarke_refusal", "PUSMARKE_");
+    assert_eq!(c.remove(&0).as_deref(), Some("Accepted"));
     let definition = refusals_of_the_definition(&text("../../crates/outcomes/specs/Refusal.antt"));
     assert!(definition.len() >= 20);
     assert_eq!(c, definition);
@@ -156,4 +158,16 @@ fn refusals() {
     let above = definition.keys().max().unwrap() + 1;
     assert_eq!(Refusal::of(above, 0, 0), Some(Refusal::Unknown(above)));
     assert_eq!(Refusal::of(0, 0, 0), None);
+}
+
+#[test]
+fn removals() {
+    let c = names_of_c(&bare(&text("../include/pusmarke.h")), "pusmarke_removed", "PUSMARKE_REMOVED_");
+    assert_eq!(c.keys().copied().collect::<Vec<_>>(), [0, 1, 2, 3, 4]);
+    for (number, name) in &c {
+        let removed = Removed::of(*number, 7, 8).unwrap();
+        assert_eq!(format!("{removed:?}").split(' ').next().unwrap(), name);
+        assert_eq!(removed.is_some(), *number != 0);
+    }
+    assert_eq!(Removed::of(5, 7, 8), Err(Refusal::Unknown(5)));
 }

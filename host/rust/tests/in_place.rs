@@ -1,6 +1,6 @@
 //! Putting the store in the place of cfdp-rs's own. The trait and its types are copied here so that the test needs no dependency; in a
 //! receiver they come from `cfdp::lost_segments` and `spacepackets::cfdp`, and the `impl` is the same.
-use pusmarke::{FileFlag, Refusal, Segments, Store, Width};
+use pusmarke::{FileFlag, Refusal, Removed, Segments, Store, Width};
 
 // From here: as cfdp-rs 0.3.0 has it.
 
@@ -96,7 +96,7 @@ impl LostSegmentStore for Lost<'_> {
             self.coalesce_lost_segments()?;
             answer = self.0.remove_lost_segment(segment_to_remove);
         }
-        answer.map_err(error)
+        answer.map(Removed::is_some).map_err(error)
     }
     fn coalesce_lost_segments(&mut self) -> Result<(), LostSegmentError> {
         self.0.coalesce_lost_segments().map_err(error)
@@ -118,6 +118,7 @@ fn receive<S: LostSegmentStore>(store: &mut S) {
     store.add_lost_segment((15, 20)).unwrap();
     assert_eq!(store.add_lost_segment((7, 7)), Err(LostSegmentError::EmptySegment));
     assert_eq!(store.remove_lost_segment((12, 18)), Ok(true));
+    assert_eq!(store.remove_lost_segment((12, 18)), Ok(false));
     assert_eq!(store.remove_lost_segment((5, 11)), Err(LostSegmentError::InvalidSegmentBoundary(5, 11)));
     assert_eq!(store.iter().collect::<Vec<_>>(), [(10, 12), (18, 20), (30, 40)]);
     assert_eq!((store.number_of_segments(), store.capacity(), store.is_empty()), (3, Some(4), false));

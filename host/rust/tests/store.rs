@@ -1,8 +1,8 @@
 //! The store: document 01's examples, and what each refusal carries.
-use pusmarke::{FileFlag, Refusal, Store, Width};
+use pusmarke::{FileFlag, Refusal, Removed, Store, Width};
 
 /// A range to remove, the capacity, the answer, and what is left.
-type Case<'a> = ((u64, u64), usize, Result<bool, Refusal>, &'a [(u64, u64)]);
+type Case<'a> = ((u64, u64), usize, Result<Removed, Refusal>, &'a [(u64, u64)]);
 
 fn ranges(store: &Store) -> Vec<(u64, u64)> {
     store.iter().collect()
@@ -10,12 +10,15 @@ fn ranges(store: &Store) -> Vec<(u64, u64)> {
 
 #[test]
 fn removes() {
-    let cases: [Case; 7] = [
-        ((10, 20), 2, Ok(true), &[(30, 40)]),
-        ((10, 15), 2, Ok(true), &[(15, 20), (30, 40)]),
+    let cases: [Case; 10] = [
+        ((10, 20), 2, Ok(Removed::Whole { index: 0, count: 1 }), &[(30, 40)]),
+        ((10, 15), 2, Ok(Removed::Left { index: 0, count: 2 }), &[(15, 20), (30, 40)]),
         ((12, 18), 2, Err(Refusal::StoreFull), &[(10, 20), (30, 40)]),
-        ((12, 18), 3, Ok(true), &[(10, 12), (18, 20), (30, 40)]),
-        ((20, 30), 2, Ok(false), &[(10, 20), (30, 40)]),
+        ((12, 18), 3, Ok(Removed::Split { index: 0, count: 3 }), &[(10, 12), (18, 20), (30, 40)]),
+        ((20, 30), 2, Ok(Removed::None { count: 2 }), &[(10, 20), (30, 40)]),
+        ((30, 40), 2, Ok(Removed::Whole { index: 1, count: 1 }), &[(10, 20)]),
+        ((31, 40), 2, Ok(Removed::Right { index: 1, count: 2 }), &[(10, 20), (30, 31)]),
+        ((31, 39), 3, Ok(Removed::Split { index: 1, count: 3 }), &[(10, 20), (30, 31), (39, 40)]),
         ((5, 25), 2, Err(Refusal::InvalidSegmentBoundary(5, 25)), &[(10, 20), (30, 40)]),
         ((18, 12), 2, Err(Refusal::StartLargerThanEnd(18, 12)), &[(10, 20), (30, 40)]),
     ];
@@ -23,7 +26,7 @@ fn removes() {
         let mut list = [10, 20, 30, 40, 0, 0];
         let mut store = Store::with_segments(&mut list[..2 * capacity], 2, Width::Wide).unwrap();
         assert_eq!(store.remove_lost_segment(range), answer);
-        assert_eq!(ranges(&store), left);
+        assert_eq!((ranges(&store).as_slice(), store.number_of_segments()), (left, left.len()));
     }
 }
 

@@ -106,6 +106,9 @@ fn main() {
     std::panic::set_hook(Box::new(|_| {}));
 
     // The store.
+    say("remove-whole", remove(&[(0, 1)], 0, 1));
+    say("remove-split", remove(&[(0, 3)], 1, 2));
+    say("remove-none", remove(&[], 0, 1));
     say("remove-inside", remove(&[(0, 2), (0, 1)], 0, 2));
     say("remove-shares", remove(&[(0, 2), (0, 1)], 1, 2));
     say("remove-twice", remove(&[(0, 1), (0, 1)], 0, 1));
