@@ -11,14 +11,16 @@ ghost use mathlib.Core.List.{[]};
 ghost use Rattle.outcomes.specs.Outcome.{accepted};
 ghost use Rattle.outcomes.specs.Checks.{verdictCase, firstOf};
 ghost use Rattle.reception.specs.Record.{isWaiting, waitingRanges, recordChecks};
-ghost use Rattle.reception.specs.Data.{appended, keptRanges, dataRanges};
+ghost use Rattle.reception.specs.Data.{keptRanges, dataRanges};
+use inserting::inner::insert;
+use inserting::inner::larger;
 use outcomes::Refusal;
 use outcomes::Verdict;
 use ranges::inner::checks::check;
 use ranges::inner::checks::last_end;
 use ranges::inner::cut::Remains;
 use ranges::inner::cut::cut;
-use ranges::inner::cut::first_from;
+use ranges::inner::cut::first_above;
 use ranges::inner::cut::first_past;
 use ranges::inner::pairs::put_pair;
 use reception::Reception;
@@ -77,13 +79,6 @@ pub fn record_checks(rec: Reception, list: &[u64]) -> Verdict
     Verdict::Passed
 }
 
-// The larger of two numbers.
-pub fn larger(a: u64, b: u64) -> u64
-    ensures { λ r. ⌜ r ≡ max a b ⌝ }
-{
-    if a < b { b } else { a }
-}
-
 // While waiting: the list is (0, to).
 fn notice(list: &mut [u64], count: usize, to: u64) -> Remains
     requires { ⌜ (count ≤ 1) × ((2 * count ≤ length (now list)) × (0 < to)) ⌝ }
@@ -97,26 +92,6 @@ fn notice(list: &mut [u64], count: usize, to: u64) -> Remains
     Remains::Left(1)
 }
 
-// The gap (p, a) behind the ranges, of which none ends above p.
-fn add_gap(list: &mut [u64], count: usize, p: u64, a: u64) -> Remains
-    requires { ⌜ (2 * count ≤ length (now list)) × (length (now list) ≤ mostNumbers) ⌝ }
-    ensures { λ r. ⌜ r ≡ cutAnswer (capacity (now (list .entry))) (appended p a (counted (now (list .entry)) count)) ⌝ }
-    ensures { λ _. ⌜ now (list .exit) ≡ cutList (capacity (now (list .entry))) (appended p a (counted (now (list .entry)) count)) count (now (list .entry)) ⌝ }
-{
-    if 0 < count {
-        let l = count - 1;
-        if list[2 * l + 1] == p {
-            list[2 * l + 1] = a;
-            return Remains::Left(count);
-        }
-    }
-    if count == list.len() / 2 {
-        return Remains::Full;
-    }
-    put_pair(list, count, p, a);
-    Remains::Left(count + 1)
-}
-
 // Metadata known: the offsets of (a, e) leave, and a gap from progress p up to a is added.
 fn keep(list: &mut [u64], count: usize, p: u64, a: u64, e: u64) -> Remains
     requires { ⌜ (2 * count ≤ length (now list)) × ((length (now list) ≤ mostNumbers) × (a < e)) ⌝ }
@@ -124,19 +99,19 @@ fn keep(list: &mut [u64], count: usize, p: u64, a: u64, e: u64) -> Remains
     ensures { λ r. ⌜ r ≡ cutAnswer (capacity (now (list .entry))) (keptRanges p a e (counted (now (list .entry)) count)) ⌝ }
     ensures { λ _. ⌜ now (list .exit) ≡ cutList (capacity (now (list .entry))) (keptRanges p a e (counted (now (list .entry)) count)) count (now (list .entry)) ⌝ }
 {
+    let room = list.len() / 2;
     if p < a {
-        return add_gap(list, count, p, a);
+        return insert(list, count, p, a, room);
     }
     // Data in order: no range ends above progress.
     if p == a {
         return Remains::Left(count);
     }
     let i = first_past(list, count, a);
-    let j = first_from(list, count, i, e);
+    let j = first_above(list, count, i, e - 1);
     if i == j {
         return Remains::Left(count);
     }
-    let room = list.len() / 2;
     let done = cut(list, count, i, j, a, e, room);
     done.remains
 }

@@ -1,7 +1,7 @@
 -- A range put into a coalesced list: the list stays coalesced, has exactly the offsets of both, and grows by one range at most.
 use mathlib.Core.Path.{_≡_, refl, ap}
 use mathlib.Core.Bool.{Bool, true, false}
-use mathlib.Core.List.{List, [], _∷_, _++_}
+use mathlib.Core.List.{List, [], _∷_, _++_, List·Memᴰ, List·Memᴰ·cases-cons, List·Memᴰ·not-nil}
 use mathlib.Core.Logic.{_⊎_, inl, inr, ⊎-elim, _↔_}
 use Prim.Native.Nat.{ℕ, suc, _≤_, _<_}
 use native.Mathlib.Omega.{arith}
@@ -98,13 +98,35 @@ absorb-length r (q ∷ qs) = go (ltb (r .end) (q .start)) refl (absorb-length (j
     go true e i = rw e (omega arith)
     go false e i = rw e (omega arith)
 
-insert-length : (r : Range) (qs : List Range) → length (insert r qs) ≤ suc (length qs)
+pub insert-length : (r : Range) (qs : List Range) → length (insert r qs) ≤ suc (length qs)
 insert-length r [] = omega arith
 insert-length r (q ∷ qs) = go (ltb (q .end) (r .start)) refl (insert-length r qs)
   where
     go : (t : Bool) → ltb (q .end) (r .start) ≡ t → length (insert r qs) ≤ suc (length qs) → length (insert r (q ∷ qs)) ≤ suc (length (q ∷ qs))
     go true e i = rw e (omega arith)
     go false e i = rw e (absorb-length r (q ∷ qs))
+
+-- where it overlaps or touches a range, the list does not grow
+later-apart : (d : ℕ) (r : Range) (qs : List Range) → Above d qs → r .end < d → (q : Range) → List·Memᴰ q qs → q .start ≤ r .end → ⊥
+later-apart d r [] a h q m k = List·Memᴰ·not-nil m
+later-apart d r (p ∷ qs) a h q m k = ⊎-elim (λ e. here e) (λ n. later-apart (suc (p .end)) r qs (a .2) (omega arith) q n k) (List·Memᴰ·cases-cons m)
+  where
+    here : q ≡ p → ⊥
+    here e = let l : p .start ≤ r .end = rw e at k in omega arith
+
+pub merged-length : (d : ℕ) (r : Range) (qs : List Range) → Above d qs → (q : Range) → List·Memᴰ q qs → r .start ≤ q .end → q .start ≤ r .end
+    → length (insert r qs) ≤ length qs
+merged-length d r [] a q m h k = absurd (List·Memᴰ·not-nil m)
+merged-length d r (p ∷ qs) a q m h k = go (ltb (p .end) (r .start)) refl (ltb (r .end) (p .start)) refl (λ n. merged-length (suc (p .end)) r qs (a .2) q n h k)
+  where
+    go : (t : Bool) → ltb (p .end) (r .start) ≡ t → (u : Bool) → ltb (r .end) (p .start) ≡ u → (List·Memᴰ q qs → length (insert r qs) ≤ length qs)
+        → length (insert r (p ∷ qs)) ≤ suc (length qs)
+    go true f u g i = rw f (⊎-elim first (λ n. let l = i n in omega arith) (List·Memᴰ·cases-cons m))
+      where
+        first : q ≡ p → suc (length (insert r qs)) ≤ suc (length qs)
+        first e = let l : r .start ≤ p .end = rw e at h in let w : p .end < r .start = ltb-true _ _ f in absurd (omega arith)
+    go false f true g i = absurd (later-apart (p .start) r (p ∷ qs) (omega arith, a .1, a .2) (ltb-true _ _ g) q m k)
+    go false f false g i = rw (f, g) (absorb-length (joined p r) qs)
 
 pub join-length : (r : Range) (qs : List Range) → length (join r qs) ≤ suc (length qs)
 join-length r qs = go (ltb (r .start) (r .end)) refl

@@ -1,4 +1,4 @@
--- The data event (offset, length) (document 01, "Reception events").
+-- The data event (offset, length) (document 01, "Reception events"; its gap is inserted: document 02, C-19).
 use Prim.Native.Nat.{ℕ, _+_, max}
 use mathlib.Core.Bool.{Bool, true, false, cond}
 use mathlib.Core.List.{List, [], _∷_, _++_}
@@ -7,6 +7,7 @@ use lib.Dec.{ltb, eqb}
 use Rattle.ranges.specs.Range.{Range, range}
 use Rattle.ranges.specs.Store.{counted, capacity, limitOf, stored}
 use Rattle.ranges.specs.Without.{without}
+use Rattle.ranges.specs.Insert.{join}
 use Rattle.outcomes.specs.Outcome.{Outcome, accepted, lent}
 use Rattle.outcomes.specs.Refusal.{refusing}
 use Rattle.outcomes.specs.Checks.{Check, firstOf}
@@ -22,19 +23,10 @@ dataCase answer.Noticed = accepted (0 ∷ [])
 dataCase answer.Kept = accepted (1 ∷ [])
 dataCase (answer.Refused r) = refusing r
 
--- The gap (p, a) behind the list: it joins a range that ends at p.
-abbrev pub appended : ℕ → ℕ → List Range → List Range
-appended p a [] = range p a ∷ []
-appended p a (r ∷ []) = cond (eqb (r .end) p) (range (r .start) a ∷ []) (r ∷ range p a ∷ [])
-appended p a (r ∷ q ∷ rs) = r ∷ appended p a (q ∷ rs)
-
--- If the offset a is above progress p, offsets from progress up to it become missing.
-abbrev pub withGap : ℕ → ℕ → List Range → List Range
-withGap p a rs = cond (ltb p a) (appended p a rs) rs
-
--- Known: offsets of (a, e) leave the list, across several ranges if need be, and a gap is added.
+-- Known: offsets of (a, e) leave the list, across several ranges if need be. If the offset a is above progress p, offsets from
+-- progress up to it become missing: the gap (p, a) is inserted; where a is not above p, that range is empty and adds nothing.
 abbrev pub keptRanges : ℕ → ℕ → ℕ → List Range → List Range
-keptRanges p a e rs = withGap p a (without a e rs)
+keptRanges p a e rs = join (range p a) (without a e rs)
 
 -- The ranges that the event leaves if it is accepted. Waiting: the range is noticed and not kept; all below progress is missing.
 abbrev pub dataRanges : Bool → ℕ → ℕ → ℕ → List Range → List Range

@@ -11,6 +11,7 @@ use Rattle.outcomes.proofs.Apart.{apart}
 use Rattle.segment_store.specs.Add.{addCase}
 use Rattle.segment_store.specs.Remove.{removeCase}
 use Rattle.segment_store.specs.Coalesce.{coalesceCase}
+use Rattle.segment_store.specs.Insert.{insertCase}
 use Rattle.segment_store.specs.SegmentInStore.{inStoreCase}
 use Rattle.segment_store.specs.WriteSegmentsToBytes.{writeCase}
 use Rattle.segment_store.specs.declared.add.AddAnswer.{AddAnswer}
@@ -19,6 +20,8 @@ use Rattle.segment_store.specs.declared.remove.RemoveAnswer.{RemoveAnswe
 use Rattle.segment_store.specs.declared.remove.RemoveAnswer.the-variants as remove
 use Rattle.segment_store.specs.declared.coalesce.CoalesceAnswer.{CoalesceAnswer}
 use Rattle.segment_store.specs.declared.coalesce.CoalesceAnswer.the-variants as coalesce
+use Rattle.segment_store.specs.declared.insert.InsertAnswer.{InsertAnswer}
+use Rattle.segment_store.specs.declared.insert.InsertAnswer.the-variants as insert
 use Rattle.segment_store.specs.declared.segment_in_store.InStoreAnswer.{InStoreAnswer}
 use Rattle.segment_store.specs.declared.segment_in_store.InStoreAnswer.the-variants as inStore
 use Rattle.segment_store.specs.declared.write_segments_to_bytes.WriteAnswer.{WriteAnswer}
@@ -74,3 +77,9 @@ one-write (write.Written m) (write.Written n) e = ap (λ (k : ℕ). write.Writte
 one-write (write.Written m) (write.Refused s) e = absurd (no-refusal s (sym e))
 one-write (write.Refused r) (write.Written n) e = absurd (no-refusal r e)
 one-write (write.Refused r) (write.Refused s) e = ap (λ (q : Refusal). write.Refused q) (one-refusal r s e)
+
+pub one-insert : (r s : InsertAnswer) → insertCase r ≡ insertCase s → r ≡ s
+one-insert (insert.Inserted m) (insert.Inserted n) e = ap (λ (k : ℕ). insert.Inserted k) (ap (value 0) e)
+one-insert (insert.Inserted m) (insert.Refused s) e = absurd (no-refusal s (sym e))
+one-insert (insert.Refused r) (insert.Inserted n) e = absurd (no-refusal r e)
+one-insert (insert.Refused r) (insert.Refused s) e = ap (λ (q : Refusal). insert.Refused q) (one-refusal r s e)

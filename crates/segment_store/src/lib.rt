@@ -3,6 +3,7 @@ use ranges::Width;
 
 pub mod add;
 pub mod coalesce;
+pub mod insert;
 pub mod remove;
 pub mod segment_in_store;
 pub mod write_segments_to_bytes;

@@ -60,19 +60,22 @@ module _ (xs : List ℕ) (st : Store) where
       let e = coalesce-accepted .0 (m, f) in
       (rw e, ap (λ (o : Outcome). getD (o .values) 0 0) (sym f) ∙ rw e)
 
-  ranges : (m : ℕ) → coalesceOutcome xs st ≡ accepted (m ∷ []) → counted (coalesceList xs st) m ≡ runs
-  ranges m f = let w = after m f in rw (w .0, w .1) (counted-stored runs (st .count) xs)
+  pub coalesce-answers : isBadStore xs (st .count) (limitOf (st .width)) ≡ false → coalesceOutcome xs st ≡ accepted (length (maximalRuns (counted xs (st .count))) ∷ [])
+  coalesce-answers e = rw e
+
+  pub coalesce-ranges : (m : ℕ) → coalesceOutcome xs st ≡ accepted (m ∷ []) → counted (coalesceList xs st) m ≡ maximalRuns (counted xs (st .count))
+  coalesce-ranges m f = let w = after m f in rw (w .0, w .1) (counted-stored runs (st .count) xs)
 
   -- accepted, with the count m that the answer carries: m ranges are counted, they are coalesced, they have exactly the offsets that
   -- the pairs had, and so they are the maximal runs of that set
   pub coalesce-count : (m : ℕ) → coalesceOutcome xs st ≡ accepted (m ∷ []) → length (counted (coalesceList xs st) m) ≡ m
-  coalesce-count m f = ap length (ranges m f) ∙ sym (after m f .1)
+  coalesce-count m f = ap length (coalesce-ranges m f) ∙ sym (after m f .1)
 
   pub coalesce-coalesced : (m : ℕ) → coalesceOutcome xs st ≡ accepted (m ∷ []) → Coalesced (counted (coalesceList xs st) m)
-  coalesce-coalesced m f = rw (ranges m f) (runs-coalesced (counted xs (st .count)))
+  coalesce-coalesced m f = rw (coalesce-ranges m f) (runs-coalesced (counted xs (st .count)))
 
   pub coalesce-covers : (m : ℕ) → coalesceOutcome xs st ≡ accepted (m ∷ []) → Same (counted (coalesceList xs st) m) (counted xs (st .count))
-  coalesce-covers m f x = rw (ranges m f) (runs-covers x (counted xs (st .count)))
+  coalesce-covers m f x = rw (coalesce-ranges m f) (runs-covers x (counted xs (st .count)))
 
   pub coalesce-runs : (m : ℕ) → coalesceOutcome xs st ≡ accepted (m ∷ []) → RunsOf (λ x. Covers x (counted xs (st .count))) (counted (coalesceList xs st) m)
   coalesce-runs m f = runs-of (λ x. Covers x (counted xs (st .count))) (counted (coalesceList xs st) m) (coalesce-coalesced m f) (coalesce-covers m f)

@@ -1,0 +1,78 @@
+-- What `first_reaching` finds, and what `insert` answers and leaves at each of its ends.
+use mathlib.Core.Path.{_≡_, refl, sym, ap, ap₂, _∙_}
+use mathlib.Core.List.{List, [], _∷_}
+use Prim.Native.Nat.{ℕ, suc, _+_, _*_, _-_, _≤_, _<_, min, max}
+use native.Mathlib.Omega.{arith}
+use lib.ListN.{length}
+use lib.Dec.{leb·zero}
+use borrow.Author.Tests.{lt-ltb, le-ltb}
+use Rattle.ranges.specs.Range.{Range, range, Coalesced, rangeAt}
+use Rattle.ranges.specs.Store.{counted, stored, startAt, endAt}
+use Rattle.ranges.specs.Insert.{insert}
+use Rattle.ranges.specs.Inner.Cut.{first, behind, cutAnswer, cutList}
+use Rattle.ranges.specs.Inner.Moves.{replaced, ofTwo}
+use Rattle.ranges.specs.declared.inner.cut.Remains.{Remains}
+use Rattle.ranges.specs.declared.inner.cut.Remains.the-variants.{Full, Left}
+use Rattle.ranges.proofs.Flat.{getD-counted}
+use Rattle.ranges.proofs.Replaced.{length-replaced}
+use Rattle.inserting.specs.Inner.{reaching}
+use Rattle.inserting.proofs.Run.{made, insert-run}
+
+-- every range reaches 0, and those that end above a reach the next offset
+pub reaching-zero : (rs : List Range) → reaching 0 rs ≡ 0
+reaching-zero [] = refl
+reaching-zero (r ∷ rs) = rw (leb·zero (r .end))
+
+pub reaching-next : (s : ℕ) (rs : List Range) → 0 < s → first (s - 1) rs ≡ reaching s rs
+reaching-next s rs h = let e : suc (s - 1) ≡ s = omega arith in ap (λ (k : ℕ). reaching k rs) e
+
+-- what `insert` finds: the ranges from place i up to place j are those that (s, e) overlaps or touches
+pub record InsertRun (xs : List ℕ) (n s e room i j : ℕ) : Type 0 where
+  pub counts : n ≤ room
+  pub lies : 2 * room ≤ length xs
+  pub ordered : s < e
+  pub whole : Coalesced (counted xs n)
+  pub start : i ≡ reaching s (counted xs n)
+  pub end : j ≡ behind i (suc e) (counted xs n)
+  pub before : i ≤ j
+  pub inside : j ≤ n
+
+module _ (xs : List ℕ) (n s e room i j : ℕ) (run : InsertRun xs n s e room i j) where
+  abbrev rs : List Range
+  rs = counted xs n
+
+  abbrev pub Answers : Remains → List ℕ → Type 0
+  Answers r l = (r ≡ cutAnswer room (insert (range s e) rs)) × (l ≡ cutList room (insert (range s e) rs) n xs)
+
+  fits : 2 * n ≤ length xs
+  fits = omega (arith, run .counts, run .lies)
+
+  -- where the run is (s, e) and those ranges in one
+  puts : (lo hi : ℕ) → made s e i (j - i) rs ≡ range lo hi
+      → (insert (range s e) rs ≡ replaced i j (range lo hi ∷ []) rs) × (length (replaced i j (range lo hi ∷ []) rs) + j ≡ n + 1 + i)
+  puts lo hi m = (
+    insert-run s e i j rs (run .ordered) (run .whole) (run .start) (run .end) ∙ ap (λ (r : Range). replaced i j (r ∷ []) rs) m,
+    length-replaced xs n i j (range lo hi ∷ []) (run .before) (run .inside) fits,
+  )
+
+  pub alone : i ≡ j → made s e i (j - i) rs ≡ range s e
+  alone h = let z : j - i ≡ 0 = omega arith in rw z
+
+  pub joins : i < j → made s e i (j - i) rs ≡ range (min s (startAt xs i)) (max e (endAt xs (j - 1)))
+  joins h =
+      let z : j - i ≡ suc (j - 1 - i) = omega arith in
+      let k : i + (j - 1 - i) ≡ j - 1 = omega arith in
+      let f = getD-counted xs n i (omega (arith, run .inside)) fits in
+      let g = getD-counted xs n (j - 1) (omega (arith, run .inside)) fits in
+      rw (z, k, f, g)
+
+  pub in-room : (lo hi m : ℕ) (l : List ℕ) → made s e i (j - i) rs ≡ range lo hi → n + 1 + i ≤ room + j
+      → m ≡ length (replaced i j (ofTwo 1 lo hi 0 0) rs) → l ≡ stored (replaced i j (ofTwo 1 lo hi 0 0) rs) n xs → Answers (Left m) l
+  in-room lo hi m l q c u v =
+      let w = puts lo hi q in
+      rw (w .0, le-ltb room (length (replaced i j (range lo hi ∷ []) rs)) (omega (arith, w .1))) (ap Left u, v)
+
+  pub no-room : i ≡ j → n ≡ room → Answers Full xs
+  no-room h c =
+      let w = puts s e (alone h) in
+      rw (w .0, lt-ltb room (length (replaced i j (range s e ∷ []) rs)) (omega (arith, w .1))) (refl, refl)

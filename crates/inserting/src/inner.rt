@@ -1,0 +1,61 @@
+// Inner: a range put into a coalesced list. Each function asks for what its caller has checked.
+ghost use mathlib.Core.Path.{_≡_};
+ghost use Prim.Native.Nat.{_*_, _<_, _≤_, min, max};
+ghost use lib.ListN.{length};
+ghost use Rattle.ranges.specs.Range.{range, Coalesced};
+ghost use Rattle.ranges.specs.Store.{counted, mostNumbers};
+ghost use Rattle.ranges.specs.Inner.Cut.{cutAnswer, cutList};
+ghost use Rattle.ranges.specs.Insert.{insert};
+ghost use Rattle.inserting.specs.Inner.{reaching};
+use ranges::inner::cut::Remains;
+use ranges::inner::cut::first_above;
+use ranges::inner::cut::first_past;
+use ranges::inner::moves::replace;
+use ranges::inner::pairs::end_at;
+use ranges::inner::pairs::start_at;
+
+fn smaller(a: u64, b: u64) -> u64
+    ensures { λ r. ⌜ r ≡ min a b ⌝ }
+{
+    if a < b { a } else { b }
+}
+
+// The larger of two numbers.
+pub fn larger(a: u64, b: u64) -> u64
+    ensures { λ r. ⌜ r ≡ max a b ⌝ }
+{
+    if a < b { b } else { a }
+}
+
+// The place of the first range that ends at s or above, or their number.
+fn first_reaching(list: &[u64], n: usize, s: u64) -> usize
+    requires { ⌜ 2 * n ≤ length (now list) ⌝ }
+    requires { ⌜ Coalesced (counted (now list) n) ⌝ }
+    ensures { λ r. ⌜ r ≡ reaching s (counted (now (list .entry)) n) ⌝ }
+    ensures { λ r. ⌜ r ≤ n ⌝ }
+{
+    if s == 0 {
+        return 0;
+    }
+    first_past(list, n, s - 1)
+}
+
+// The range (s, e) is put into the n ranges and joins those that it overlaps or touches. There is room for so many.
+pub fn insert(list: &mut [u64], n: usize, s: u64, e: u64, room: usize) -> Remains
+    requires { ⌜ (n ≤ room) × ((2 * room ≤ length (now list)) × ((length (now list) ≤ mostNumbers) × (s < e))) ⌝ }
+    requires { ⌜ Coalesced (counted (now list) n) ⌝ }
+    ensures { λ r. ⌜ r ≡ cutAnswer room (insert (range s e) (counted (now (list .entry)) n)) ⌝ }
+    ensures { λ _. ⌜ now (list .exit) ≡ cutList room (insert (range s e) (counted (now (list .entry)) n)) n (now (list .entry)) ⌝ }
+{
+    let i = first_reaching(list, n, s);
+    let j = first_above(list, n, i, e);
+    if i == j {
+        if n == room {
+            return Remains::Full;
+        }
+        return Remains::Left(replace(list, n, i, j, 1, s, e, 0, 0));
+    }
+    let low = smaller(s, start_at(list, i));
+    let high = larger(e, end_at(list, j - 1));
+    Remains::Left(replace(list, n, i, j, 1, low, high, 0, 0))
+}

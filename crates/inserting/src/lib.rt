@@ -1,0 +1,2 @@
+// A range put into a coalesced list where it lies.
+pub mod inner;
