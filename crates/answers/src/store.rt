@@ -1,10 +1,11 @@
-// Of the store's five calls.
+// Of the store's six calls.
 ghost use mathlib.Core.Path.{_≡_};
 ghost use mathlib.Core.List.{[], _∷_};
 ghost use Rattle.outcomes.specs.Outcome.{accepted};
 ghost use Rattle.segment_store.specs.Add.{addCase};
 ghost use Rattle.segment_store.specs.Remove.{removeCase};
 ghost use Rattle.segment_store.specs.Coalesce.{coalesceCase};
+ghost use Rattle.segment_store.specs.Insert.{insertCase};
 ghost use Rattle.segment_store.specs.SegmentInStore.{inStoreCase};
 ghost use Rattle.segment_store.specs.WriteSegmentsToBytes.{writeCase};
 ghost use Rattle.answers.specs.Answer.{answerOf};
@@ -15,6 +16,7 @@ use crate::inner::with_three;
 use crate::refusal::of_refusal;
 use segment_store::add::AddAnswer;
 use segment_store::coalesce::CoalesceAnswer;
+use segment_store::insert::InsertAnswer;
 use segment_store::remove::RemoveAnswer;
 use segment_store::segment_in_store::InStoreAnswer;
 use segment_store::write_segments_to_bytes::WriteAnswer;
@@ -54,6 +56,15 @@ pub fn of_coalesce(a: CoalesceAnswer) -> PusmarkeAnswer
     match a {
         CoalesceAnswer::Coalesced(count) => with_one(0, wide(count)),
         CoalesceAnswer::Refused(r) => of_refusal(r),
+    }
+}
+
+pub fn of_insert(a: InsertAnswer) -> PusmarkeAnswer
+    ensures { λ r. ⌜ r ≡ answerOf (insertCase a) ⌝ }
+{
+    match a {
+        InsertAnswer::Inserted(count) => with_one(0, wide(count)),
+        InsertAnswer::Refused(r) => of_refusal(r),
     }
 }
 

@@ -18,6 +18,7 @@ pub enum Command {
     Show,
     Slots,
     Add,
+    Insert,
     Remove,
     Coalesce,
     Within,
@@ -57,6 +58,9 @@ fn state_named(word: &[u8]) -> Command {
 fn call_named(word: &[u8]) -> Command {
     if words::same(word, b"add") {
         return Command::Add;
+    }
+    if words::same(word, b"insert") {
+        return Command::Insert;
     }
     if words::same(word, b"remove") {
         return Command::Remove;
@@ -106,6 +110,7 @@ fn arguments(
         Command::Show => words::take_words(line, from, b"", values),
         Command::Slots => words::take_words(line, from, b"l", values),
         Command::Add => words::take_words(line, from, b"nn", values),
+        Command::Insert => words::take_words(line, from, b"nn", values),
         Command::Remove => words::take_words(line, from, b"nn", values),
         Command::Coalesce => words::take_words(line, from, b"", values),
         Command::Within => words::take_words(line, from, b"nn", values),
@@ -137,6 +142,7 @@ fn answer(
         Command::Show => state::show(s, memory, out),
         Command::Slots => state::slots(s, memory, values[0], out),
         Command::Add => store::add(s, memory, values[0], values[1], out),
+        Command::Insert => store::insert(s, memory, values[0], values[1], out),
         Command::Remove => store::remove(s, memory, values[0], values[1], out),
         Command::Coalesce => store::coalesce(s, memory, out),
         Command::Within => store::within(s, memory, values[0], values[1], out),

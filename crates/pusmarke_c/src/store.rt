@@ -1,8 +1,9 @@
-// The store's five calls. The list is flat, start and end by turns; `count` pairs of it are counted.
+// The store's six calls. The list is flat, start and end by turns; `count` pairs of it are counted.
 ghost use mathlib.Core.Path.{_≡_};
 ghost use Rattle.segment_store.specs.Add.{addOutcome, addList};
 ghost use Rattle.segment_store.specs.Remove.{removeOutcome, removeList};
 ghost use Rattle.segment_store.specs.Coalesce.{coalesceOutcome, coalesceList};
+ghost use Rattle.segment_store.specs.Insert.{insertOutcome, insertList};
 ghost use Rattle.segment_store.specs.SegmentInStore.{inStoreOutcome};
 ghost use Rattle.segment_store.specs.WriteSegmentsToBytes.{writeOutcome, writeBuffer};
 ghost use Rattle.c_values.specs.Input.{storeOf, flagIn};
@@ -11,12 +12,14 @@ use answers::PusmarkeAnswer;
 use answers::store::of_add;
 use answers::store::of_coalesce;
 use answers::store::of_in_store;
+use answers::store::of_insert;
 use answers::store::of_remove;
 use answers::store::of_write;
 use c_values::inner::flag_in;
 use c_values::inner::store_of;
 use lost_segments::add::add;
 use lost_segments::coalesce::coalesce;
+use lost_segments::insert::insert;
 use lost_segments::remove::remove;
 use lost_segments::segment_in_store::segment_in_store;
 use lost_segments::write_segments_to_bytes::write_segments_to_bytes;
@@ -58,6 +61,21 @@ pub extern "C" fn pusmarke_coalesce(list: &mut [u64], count: usize, narrow: u64)
 {
     let store = store_of(count, narrow);
     of_coalesce(coalesce(store, list))
+}
+
+#[no_mangle]
+pub extern "C" fn pusmarke_insert(
+    list: &mut [u64],
+    count: usize,
+    narrow: u64,
+    start: u64,
+    end: u64,
+) -> PusmarkeAnswer
+    ensures { λ r. ⌜ r ≡ answerOf (insertOutcome (now (list .entry)) (storeOf count narrow) start end) ⌝ }
+    ensures { λ _. ⌜ now (list .exit) ≡ insertList (now (list .entry)) (storeOf count narrow) start end ⌝ }
+{
+    let store = store_of(count, narrow);
+    of_insert(insert(store, list, start, end))
 }
 
 #[no_mangle]

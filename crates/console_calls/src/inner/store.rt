@@ -84,6 +84,20 @@ pub fn coalesce(s: State, memory: &mut [u64], out: &mut [u8; 65536]) -> State {
     changed(s, out, b"coalesced", a.first)
 }
 
+pub fn insert(s: State, memory: &mut [u64], start: u64, end: u64, out: &mut [u8; 65536]) -> State {
+    let lent = part::first_numbers(memory, s.length);
+    let a = answers::store::of_insert(lost_segments::insert::insert(
+        store_of(s),
+        &mut memory[..lent],
+        start,
+        end,
+    ));
+    if a.refusal != 0 {
+        return refusals::show_refusal(s, a, out);
+    }
+    changed(s, out, b"inserted", a.first)
+}
+
 pub fn within(s: State, memory: &[u64], start: u64, end: u64, out: &mut [u8; 65536]) -> State {
     let lent = part::first_numbers(memory, s.length);
     let a = answers::store::of_in_store(lost_segments::segment_in_store::segment_in_store(
