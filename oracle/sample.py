@@ -200,7 +200,10 @@ def console(rng):
     out.append('# Lists that are coalesced and lists that are not, known and waiting.')
     for block in rng.sample(list(scripts.records_small(rng)), 60):
         out += block
-    out.append('# insert: 8 and 10 behind and before the other checks; slots given up and slots past both counts.')
+    out += ['# insert: 8 before 1, where the list is full and nothing joins; 4 before 8 and 1.',
+            *on('narrow', 2, [(30, 40), (10, 20)], 'insert 50 60', 'insert 0 1', 'insert 22 28', 'insert 20 30',
+                words('insert', 50, NARROW + 1)),
+            '# insert: 8 and 10 behind and before the other checks; slots given up and slots past both counts.']
     for width, capacity, *case in rng.sample(list(scripts.insert_checks()), 200):
         out += [words('new', width, capacity), *scripts.insert_check(*case)]
     for block in rng.sample(list(scripts.store_insert_slots(rng)), 120):
