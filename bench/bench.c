@@ -28,6 +28,7 @@ struct pusmarke_step { uint64_t found, start, end; size_t at; };
 struct pusmarke_answer pusmarke_add(uint64_t *, size_t, size_t, uint64_t, uint64_t, uint64_t);
 struct pusmarke_answer pusmarke_remove(uint64_t *, size_t, size_t, uint64_t, uint64_t, uint64_t);
 struct pusmarke_answer pusmarke_coalesce(uint64_t *, size_t, size_t, uint64_t);
+struct pusmarke_answer pusmarke_insert(uint64_t *, size_t, size_t, uint64_t, uint64_t, uint64_t);
 struct pusmarke_answer pusmarke_segment_in_store(const uint64_t *, size_t, size_t, uint64_t, uint64_t, uint64_t);
 struct pusmarke_answer pusmarke_write_segments_to_bytes(
     const uint64_t *, size_t, size_t, uint64_t, uint64_t, uint8_t *, size_t);
@@ -44,6 +45,7 @@ size_t rust_list(const void *, uint64_t *);
 uint64_t rust_add(void *, uint64_t, uint64_t);
 uint64_t rust_remove(void *, uint64_t, uint64_t);
 uint64_t rust_coalesce(void *);
+uint64_t rust_add_and_coalesce(void *, uint64_t, uint64_t);
 uint64_t rust_segment_in_store(const void *, uint64_t, uint64_t);
 uint64_t rust_write_segments_to_bytes(const void *, uint64_t, uint8_t *, size_t);
 void rust_sort(uint64_t *, size_t);
@@ -204,8 +206,8 @@ static void sort(size_t n)
     same(memcmp(list, other, sizeof list) == 0, "sort");
 }
 
-// Add, the split and data that opens a hole give a list of n ranges, since 4,096 is the most; the others
-// start from n.
+// Add, insert, the split and data that opens a hole start from n - 1 ranges, since 4,096 is the most; the
+// others start from n.
 static void add(size_t n)
 {
     uint64_t s = start_of(n - 1), e = end_of(n - 1);
@@ -246,6 +248,25 @@ static void coalesce(size_t n, void (*fill)(size_t))
 static void coalesce_ascending(size_t n) { coalesce(n, ascending); }
 static void coalesce_reversed(size_t n) { coalesce(n, reversed); }
 static void coalesce_random(size_t n) { coalesce(n, shuffled); }
+
+// The Rust has no insert: its add, for which there is room, and then its coalesce.
+static void insert_into(size_t n, size_t without, uint64_t s, uint64_t e)
+{
+    ascending(n - 1);
+    for (size_t i = without; i < n - 1; i++)
+        put(i, i + 1);
+    begin();
+    BOTH(answer = pusmarke_insert(list, NUMBERS, count, narrow, s, e), said = rust_add_and_coalesce(store, s, e));
+    same(said == 0, "answer");
+    end(answer.first);
+}
+
+static void insert_at(size_t n, size_t i) { insert_into(n, i, start_of(i), end_of(i)); }
+static void insert_first(size_t n) { insert_at(n, 0); }
+static void insert_middle(size_t n) { insert_at(n, n / 2); }
+static void insert_last(size_t n) { insert_at(n, n - 1); }
+static void insert_hole(size_t n) { insert_into(n, n - 1, end_of(n / 2 - 1), start_of(n / 2)); }
+static void insert_over(size_t n) { insert_into(n, n - 1, start_of(n / 4), end_of(n / 4 + n / 2)); }
 
 static void in_store(size_t n, uint64_t s, uint64_t e, uint64_t yes)
 {
@@ -382,6 +403,11 @@ static const struct {
     { "coalesce, ascending", ALL, coalesce_ascending },
     { "coalesce, reversed", ALL, coalesce_reversed },
     { "coalesce, random", ALL, coalesce_random },
+    { "insert, first range", ALL, insert_first },
+    { "insert, middle range", ALL, insert_middle },
+    { "insert, last range", ALL, insert_last },
+    { "insert, fills a hole", ALL, insert_hole },
+    { "insert, over half the list", ALL, insert_over },
     { "segment_in_store, first", ALL, in_store_first },
     { "segment_in_store, last", ALL, in_store_last },
     { "segment_in_store, miss", ALL, in_store_miss },

@@ -1,5 +1,5 @@
 #!/usr/bin/env python3
-"""A model of the console, written from document 01, document 02's C-16 and the console's language alone.
+"""A model of the console, written from document 01, document 02's C-16 and C-19 and the console's language alone.
 
     model.py [SCRIPT]      answers the script (or standard input) as the program must
     model.py --self-test   holds the interval algebra against plain sets of offsets
@@ -231,18 +231,34 @@ class Console:
 
     # The calls.
 
-    def add(self, s, e):
-        pairs = self.pairs()
+    def new_range(self, s, e):
+        """Checks 2, 3 and 4 of add and insert."""
         if s == e:
             raise Refused(2)
         if s > e:
             raise Refused(3, s, e)
         if self.narrow and max(s, e) > NARROW:
             raise Refused(4)
+
+    def add(self, s, e):
+        pairs = self.pairs()
+        self.new_range(s, e)
         if self.count == self.capacity():
             raise Refused(1)
         self.put(pairs + [(s, e)])
         return f'added {self.count}'
+
+    def insert(self, s, e):
+        """What coalesce would leave after an append with room; 1 is judged on that alone."""
+        pairs = self.pairs()
+        self.new_range(s, e)
+        if not is_coalesced(pairs):
+            raise Refused(8)
+        left = runs(pairs + [(s, e)])
+        if len(left) > self.capacity():
+            raise Refused(1)
+        self.put(left)
+        return f'inserted {self.count}'
 
     def remove(self, a, b):
         pairs = self.pairs()
@@ -376,7 +392,7 @@ class Console:
         if name == 'slots':
             need(1)
             return ' '.join(['slots', *map(str, self.memory[:number(rest[0], MEMORY)])])
-        if name in ('add', 'remove', 'within', 'data'):
+        if name in ('add', 'insert', 'remove', 'within', 'data'):
             need(2)
             return getattr(self, name)(number(rest[0]), number(rest[1]))
         if name in ('coalesce', 'metadata'):
@@ -450,11 +466,12 @@ def spans(members):
             for x in sorted(members) if x - 1 not in members]
 
 
-def removal(pairs, a, b):
-    """What the console answers, and the list that it leaves."""
+def told(call, pairs, a, b, capacity=4096):
+    """What the console answers to a call on these pairs, and the list that it leaves."""
     console = Console()
+    console.begin(False, capacity)
     console.put(pairs)
-    [answer] = console.line(1, f'remove {a} {b}')
+    [answer] = console.line(1, f'{call} {a} {b}')
     return answer, console.pairs()
 
 
@@ -469,6 +486,14 @@ def removal_of_sets(members, a, b):
     what = {(False, False): 'whole', (False, True): 'left', (True, False): 'right', (True, True): 'split'}
     index = sum(x - 1 not in members for x in members if x <= a) - 1
     return f'removed {what[a - 1 in members, b in members]} {index} {len(left)}', left
+
+
+def insertion_of_sets(members, a, b, capacity):
+    """C-19 said of a set: the runs of the old offsets and the new ones, if there are no more of them than the capacity."""
+    left = spans(members | set(range(a, b)))
+    if len(left) > capacity:
+        return 'refused 1', spans(members)
+    return f'inserted {len(left)}', left
 
 
 def self_test():
@@ -486,8 +511,12 @@ def self_test():
         for a, b in itertools.combinations(range(9), 2):
             asked = set(range(a, b))
             assert minus(pairs, a, b) == spans(members - asked), (pairs, a, b)
-            assert removal(pairs, a, b) == removal_of_sets(members, a, b), (pairs, a, b)
+            assert told('remove', pairs, a, b) == removal_of_sets(members, a, b), (pairs, a, b)
             done += 1
+            for capacity in range(len(pairs), len(pairs) + 2):
+                said = told('insert', pairs, a, b, capacity)
+                assert said == insertion_of_sets(members, a, b, capacity), (pairs, a, b, capacity)
+                done += 1
             for progress in range(pairs[-1][1] if pairs else 0, 9):
                 console = Console()
                 console.begin(False, 4096)

@@ -1,8 +1,9 @@
 """Makes the fixed sample that the gate replays (run it by `compare --sample`): crates/pusmarke/data/sample.script and
 the answers, crates/pusmarke/stdout.
 
-The answers to the part `store` are the Rust's, and the model's where the Rust says less (what a removal did, and at which
-index); those to the other parts are the model's. The same sources give the same octets.
+The answers to the part `store` are the Rust's (to `insert`, those of its add and coalesce with room), and the model's where
+the Rust says less (what a removal did, and at which index); those to the other parts are the model's. The same sources give
+the same octets.
 """
 import itertools
 import os
@@ -39,6 +40,16 @@ STORE_EXAMPLES = [
     '# The narrow limit.',
     *on('narrow', 2, [(5, NARROW)], words('remove', 6, NARROW), words('remove', 5, NARROW + 1), words('remove', NARROW + 1, 5),
         words('add', NARROW, NARROW), words('add', NARROW + 1, 5), words('add', 5, NARROW + 1), words('add', 7, NARROW)),
+]
+
+INSERT_EXAMPLES = [
+    '# Document 02, C-19: a full store takes a range that merges, which add refuses; 1 where nothing joins, and at capacity 0.',
+    *on('wide', 2, W, 'add 20 30', 'insert 20 30', 'add 50 60', 'insert 60 70', 'insert 45 50', 'insert 40 60'),
+    *on('wide', 2, W, 'insert 21 29', 'insert 0 5', 'insert 41 42', 'insert 12 18', 'insert 0 50'),
+    *on('wide', 3, W, 'insert 21 29', 'show', 'insert 29 30', 'show', 'insert 20 21'),
+    *on('narrow', 1, [], words('insert', NARROW, NARROW), words('insert', NARROW + 1, NARROW + 1), words('insert', NARROW + 1, 5),
+        words('insert', 5, NARROW + 1), words('insert', 5, NARROW), words('insert', 0, 4), words('insert', 0, 5)),
+    *on('wide', 0, [], 'insert 5 5', 'insert 5 4', 'insert 4 5'),
 ]
 
 RECEPTION_EXAMPLES = [
@@ -80,6 +91,11 @@ def store(rng):
     for block in scripts.store_remove_places(rng):
         if int(block[0].split(' ')[2]) <= 4:
             out += block
+    out += [*INSERT_EXAMPLES, '# Ranges that meet none, one, two or all of the list\'s, both widths; the order of the checks.']
+    for width, capacity, *case in rng.sample([case for case in scripts.insert_places() if case[1] <= 4], 400):
+        out += [words('new', width, capacity), *scripts.inserted(*case)]
+    for width, capacity, *case in rng.sample(list(scripts.insert_checks()), 200):
+        out += [words('new', width, capacity), *scripts.insert_check(*case)]
     removes = [(w, room, bits, a, b) for w in WIDTHS for room in (0, 1) for bits in range(64)
                for a, b in itertools.product(range(8), repeat=2) if a <= b or a == b + 1]
     for width, room, bits, a, b in rng.sample(removes, 380):
@@ -184,15 +200,23 @@ def console(rng):
     out.append('# Lists that are coalesced and lists that are not, known and waiting.')
     for block in rng.sample(list(scripts.records_small(rng)), 60):
         out += block
+    out += ['# insert: 8 before 1, where the list is full and nothing joins; 4 before 8 and 1.',
+            *on('narrow', 2, [(30, 40), (10, 20)], 'insert 50 60', 'insert 0 1', 'insert 22 28', 'insert 20 30',
+                words('insert', 50, NARROW + 1)),
+            '# insert: 8 and 10 behind and before the other checks; slots given up and slots past both counts.']
+    for width, capacity, *case in rng.sample(list(scripts.insert_checks()), 200):
+        out += [words('new', width, capacity), *scripts.insert_check(*case)]
+    for block in rng.sample(list(scripts.store_insert_slots(rng)), 120):
+        out += block
     return out
 
 
 REACHED = {
-    'store': {**scripts.RUST_REACH, 'remove': scripts.REACH['remove'] - {8, 10}},
+    'store': {**scripts.RUST_REACH, **{name: scripts.REACH[name] - {8, 10} for name in ('insert', 'remove')}},
     'codec': {name: scripts.REACH[name] for name in ('write', 'read')},
     'reception': {name: scripts.REACH[name] for name in ('data', 'metadata')},
     'sequence': {'nak': scripts.REACH['nak'] - {8, 10, 12}},
-    'console': {**{name: {10} for name in ('add', 'remove', 'coalesce', 'within', 'octets')}, 'remove': {8, 10},
+    'console': {**{name: {10} for name in ('add', 'coalesce', 'within', 'octets')}, 'insert': {8, 10}, 'remove': {8, 10},
                 'nak': {8, 10, 12}, 'data': {8, 10, 12}, 'metadata': {8, 10, 12, 19}},
 }
 

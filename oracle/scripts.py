@@ -87,6 +87,117 @@ def store_remove_places(rng):
             yield block
 
 
+def inserted(pairs, s, e):
+    """Lines that insert (s, e) into these pairs, with the list before and after."""
+    return [*set_list(pairs), 'show', words('insert', s, e), 'show']
+
+
+def insert_places():
+    """(width, capacity, pairs, s, e) of every case of store_insert_places. Holes are six offsets wide."""
+    for width, n, room in itertools.product(WIDTHS, (0, 1, 2, 3, 9, 32), (0, 1)):
+        low = 10 * n + 5
+        for top in (low, NARROW) if width == 'narrow' else (low, NARROW + 5 * n, TOP):
+            pairs = [(top - 10 * i - 9, top - 10 * i - 5) for i in reversed(range(n))]
+            first, last = pairs[0][0] if pairs else top, pairs[-1][1] if pairs else top - 5
+            asked = [(first - 3, first - 1), (first - 3, first), (first - 1, first + 1), (last + 1, last + 3), (last, last + 3),
+                     (last - 1, top), (first, last), (first - 1, last + 1), (first + 1, last - 1), (top - 1, top)]
+            for s, e in pairs[:3] + pairs[-2:]:
+                asked += [(s, e), (s + 1, e - 1), (s, s + 1), (e - 1, e), (s - 1, e + 1), (e, e + 6), (e, e + 3), (e + 3, e + 6),
+                          (e + 1, e + 5), (e - 1, e + 7), (s + 1, e + 11), (s - 6, e + 6), (s, e + 1), (s - 1, e)]
+            for s, e in dict.fromkeys(asked):
+                if 0 <= s < e <= top:
+                    yield width, n + room, pairs, s, e
+
+
+def store_insert_places(rng):
+    """insert of ranges that meet none, one, two or all of the ranges of lists of 0, 1, 2, 3, 9 and 32 ranges from 0, around
+    2^32 and up to the width's largest number, full and with room, both widths: before, between and behind all, touching
+    at the left, the right and both, inside, over one and across several; 1 only where nothing joins and the list is full."""
+    for (width, capacity, _), cases in itertools.groupby(insert_places(), lambda case: case[:3]):
+        yield [words('new', width, capacity), *(line for *_, pairs, s, e in cases for line in inserted(pairs, s, e))]
+
+
+def insert_checks():
+    """(width, capacity, pairs, length, count, s, e) of every case of store_insert_checks; length and count as they are lent."""
+    above = NARROW + 1
+    asked = [(5, 5), (9, 4), (4, 9), (20, 25), (above, above), (above, 5), (5, above), (50, 60), (0, 1), (above, TOP), (TOP, above),
+             (NARROW, NARROW), (NARROW, 5), (5, NARROW), (NARROW - 1, NARROW), (NARROW, above), (0, TOP), (TOP, 0), (TOP, TOP)]
+    lists = [[], [(10, 20)], [(10, 20), (30, 40)], [(10, 20), (15, 40)], [(10, 20), (20, 40)], [(30, 40), (10, 20)], [(10, 10), (30, 40)],
+             [(20, 10), (30, 40)], [(10, 20), (40, 40)], [(10, 20), (10, 20)], [(10, 20), (30, above)], [(10, 20), (above, 5)]]
+    for width, pairs, room in itertools.product(WIDTHS, lists, (0, 1)):
+        n = len(pairs)
+        for s, e in asked:
+            yield width, n + room, pairs, 2 * (n + room), n, s, e
+        for (length, count), (s, e) in itertools.product(((2 * n + 1, n), (2 * n, n + 1), (8194, n), (8192, 4097)), asked[:7]):
+            yield width, n + room, pairs, length, count, s, e
+
+
+def insert_check(pairs, length, count, s, e):
+    return [*set_list(pairs), words('lend', length), words('load', 0, 'known', count), words('insert', s, e),
+            words('slots', 2 * len(pairs) + 2)]
+
+
+def store_insert_checks(rng):
+    """insert, the order of its checks 10, 2, 3, 4, 8, 1: ranges that fail none, one or two of 2, 3 and 4, joining and apart, on
+    stores that are sound, empty, full, without capacity, not coalesced (overlapping, touching, descending, with an empty or a
+    reversed pair; full too), of odd length, with a count above the capacity or a number above the narrow limit; both widths."""
+    for (width, capacity, _), cases in itertools.groupby(insert_checks(), lambda case: case[:3]):
+        yield [words('new', width, capacity), *(line for _, _, *case in cases for line in insert_check(*case))]
+
+
+def store_insert_small(rng):
+    """insert, every pair from 0 to 9 on every coalesced list of the offsets 0 to 7, full and with room for one more, both
+    widths: inserted, 1, 2, 3."""
+    for width, room in itertools.product(WIDTHS, (0, 1)):
+        for bits in range(2**8):
+            pairs = spans(bits)
+            block = [words('new', width, len(pairs) + room)]
+            for s, e in itertools.product(range(10), repeat=2):
+                block += inserted(pairs, s, e)
+            yield block
+
+
+def store_insert_slots(rng):
+    """insert on lists of 0 to 5 ranges with other numbers in the slots behind: slots given up hold (0, 0), slots past both
+    counts stay, and a refusal changes none; both widths."""
+    for width, n, room in itertools.product(WIDTHS, range(6), (0, 1, 2)):
+        pairs = [(10 * i + 4, 10 * i + 8) for i in range(n)]
+        for s, e in itertools.combinations([0, 1, *(x for i in range(n) for x in (10 * i + 4, 10 * i + 6, 10 * i + 8, 10 * i + 9))], 2):
+            yield [words('new', width, n + room), words('poke', 2 * n, 91, 92, 93, 94, 95, 96), *set_list(pairs),
+                   words('insert', s, e), words('slots', 2 * n + 6)]
+
+
+def store_insert_full(rng):
+    """insert into full lists of 1,000, 4,095 and 4,096 ranges, both widths: apart from all is 1, inside, touching and over one
+    are taken, what fills a hole makes room for one range, and then it is full again; at last across some and over all."""
+    for width, n in itertools.product(WIDTHS, (1000, 4095, 4096)):
+        m = 5 * n
+        block = [words('new', width, n), *set_list([(10 * i + 2, 10 * i + 8) for i in range(n)])]
+        for s, e in ((0, 1), (m + 9, m + 11), (10 * n, 10 * n + 5), (m + 3, m + 5), (1, 2), (m + 8, m + 10), (10 * n - 2, 10 * n - 1),
+                     (m - 32, m - 28), (10 * n, 10 * n + 5), (10 * n + 6, 10 * n + 7), (m + 29, m + 31), (m - 100, m + 100)):
+            block.append(words('insert', s, e))
+        yield [*block, 'show', words('slots', 2 * n), words('insert', 0, 20 * n), 'show', words('slots', 2 * n)]
+
+
+def store_insert_history(rng):
+    """Long histories of insert and remove alone on one store, whose list is so always coalesced: capacities from 0, offsets
+    of a narrow space so that ranges meet, near 0, 2^32 and 2^64, both widths."""
+    while True:
+        width = rng.choice(WIDTHS)
+        capacity = rng.choice(FIXED[:rng.choice((6, 21, 27))])
+        space = rng.choice((8, 20, 60, 400))
+        base = rng.choice((0, 0, NARROW - space // 2, NARROW - space, TOP - space))
+        block = [words('new', width, capacity), 'show']
+        for _ in range(150):
+            a, b = base + rng.randint(0, space), base + rng.randint(0, space)
+            if rng.random() < 0.95:
+                a, b = sorted((a, b))
+            if rng.random() < 0.5:
+                b = min(TOP, a + rng.randint(1, 4))
+            block += [words(rng.choice(('insert', 'insert', 'remove')), a, b), 'show']
+        yield block
+
+
 def store_coalesce_small(rng):
     """coalesce, every list of up to three pairs of the numbers 0 to 3, empty and reversed ones
     too, both widths."""
@@ -149,14 +260,16 @@ def store_edges(rng):
 
 
 def one_call(rng, a, b, count):
-    kind = rng.randrange(12)
+    kind = rng.randrange(15)
     if kind < 3:
         return words('add', a, b)
-    if kind < 7:
-        return words('remove', a, b)
-    if kind < 8:
-        return 'coalesce'
+    if kind < 6:
+        return words('insert', a, b)
     if kind < 10:
+        return words('remove', a, b)
+    if kind < 11:
+        return 'coalesce'
+    if kind < 13:
         return words('within', a, b)
     flag = rng.choice(FLAGS)
     length = count * (8 if flag == 'normal' else 16) + rng.choice((0, 0, 0, 0, 8, -8, 1))
@@ -164,7 +277,7 @@ def one_call(rng, a, b, count):
 
 
 def store_history(rng):
-    """Long histories of all five calls on one store that is never set afresh: capacities from 0,
+    """Long histories of all six calls on one store that is never set afresh: capacities from 0,
     offsets of a narrow space so that ranges meet, near 0, 2^32 and 2^64, both widths."""
     while True:
         width = rng.choice(WIDTHS)
@@ -179,9 +292,11 @@ def store_history(rng):
                 a, b = sorted((a, b))
             a, b = min(a, TOP), min(b, TOP)
             kind = rng.random()
-            if kind < 0.35:
+            if kind < 0.25:
                 block.append(words('add', a, b))
                 count += 1
+            elif kind < 0.4:
+                block += ['show', words('insert', a, b), 'show']
             elif kind < 0.55:
                 block += ['coalesce', 'show']
             elif kind < 0.85:
@@ -200,8 +315,8 @@ def store_history(rng):
 
 def store_lists(rng):
     """Lists of up to 4,096 ranges, ascending, reversed, in random order, overlapping, with empty and
-    reversed pairs: coalesce, then removes inside, at the edges of, across and between ranges, adds
-    up to a full store, octets; both widths, full and not."""
+    reversed pairs: coalesce, then removes inside, at the edges of, across and between ranges, inserts of
+    the same kinds, adds up to a full store, octets; both widths, full and not."""
     while True:
         width = rng.choice(WIDTHS)
         n = min(4096, int(2 ** rng.uniform(0, 12.01)))
@@ -234,6 +349,8 @@ def store_lists(rng):
                                (max(0, s - 1), s), (rng.randint(low, high), rng.randint(low, high))])
             a, b = min(a, TOP), min(b, TOP)
             block += [words('within', a, b), words('remove', a, b)]
+            if rng.random() < 0.3:
+                block.append(words('insert', a, min(TOP, b + rng.choice((0, 0, 1, 5)))))
         block.append('show')
         for _ in range(rng.randint(0, 4)):
             block.append(words('add', rng.randint(low, high), rng.randint(low, high)))
@@ -245,8 +362,8 @@ def store_lists(rng):
 
 def store_broken(rng):
     """Stores that are none, for every store call: an odd length, more than 4,096 pairs, a count
-    above the capacity, wide numbers in a narrow store (10); uncoalesced lists for remove (8, after
-    4, 2 and 3); slots past the count before and after a change."""
+    above the capacity, wide numbers in a narrow store (10); uncoalesced lists for remove and insert (8,
+    after 4, 2 and 3); slots past the count before and after a change."""
     while True:
         width = rng.choice(WIDTHS)
         capacity = rng.choice((0, 1, 2, 3, 5, 4096))
@@ -371,7 +488,7 @@ def records_broken(rng):
 
 def records_small(rng):
     """Every list of up to two pairs of the numbers 0 to 3, known, with progress 0 to 4: both events, the
-    sequence and remove: 8 for lists that overlap, touch, descend or hold empty pairs, 12, 19; and the
+    sequence, remove and insert: 8 for lists that overlap, touch, descend or hold empty pairs, 12, 19; and the
     same lists waiting: 10 unless the list is the stated one."""
     pool = list(itertools.product(range(4), repeat=2))
     for n, mark in itertools.product(range(3), ('known', 'missing')):
@@ -379,8 +496,8 @@ def records_small(rng):
             block = ['new wide 3']
             for progress in range(5) if n < 2 else (3, 4):
                 block += [*set_list(pairs, progress, mark), 'nak 1 1 1 7 2 normal 24 0 16 384', 'remove 1 2',
-                          *set_list(pairs, progress, mark), 'data 2 1', 'show', *set_list(pairs, progress, mark),
-                          'metadata', 'show']
+                          *set_list(pairs, progress, mark), 'insert 1 2', 'show', *set_list(pairs, progress, mark),
+                          'data 2 1', 'show', *set_list(pairs, progress, mark), 'metadata', 'show']
             yield block
 
 
@@ -625,13 +742,15 @@ def nonsense(rng):
     above 2^64 - 1, signs, tabs, capitals, odd and upper-case octets, values past each limit, lines of
     65,535 and 65,536 octets; and lines that are passed over; each with commands in between that show
     that nothing changed."""
-    good = ['new wide 3', 'lend 6', 'load 7 known 1', 'poke 0 1 2', 'show', 'slots 4', 'add 1 2', 'remove 1 2',
+    good = ['new wide 3', 'lend 6', 'load 7 known 1', 'poke 0 1 2', 'show', 'slots 4', 'add 1 2', 'insert 1 2', 'remove 1 2',
             'coalesce', 'within 1 2', 'octets normal 8', 'data 0 1', 'metadata',
             'write 1 1 1 7 2 normal 0 1000 24 100 200', 'read 2800', 'nak 1 1 1 7 2 normal 32 0 1 32']
     fixed = ['bogus', 'ADD 1 2', 'add', 'add 1', 'add 1 2 3', 'add -1 2', 'add +1 2', 'add 0x1 2', 'add 1. 2',
              'add 18446744073709551615 18446744073709551615', 'add 18446744073709551616 1',
              'add 99999999999999999999 1', 'add 000000000000000000001 2', 'add 00000000000000000001 2',
-             'add\t1 2', '\tadd 1 2', 'add 1 2\r', 'add 1 2\t', '  add   1    2  ', 'new', 'new wide', 'new tall 3',
+             'add\t1 2', '\tadd 1 2', 'add 1 2\r', 'add 1 2\t', '  add   1    2  ', 'insert', 'insert 1', 'insert 1 2 3',
+             'insert x 2', 'insert 1 -2', 'Insert 1 2', 'inserts 1 2', 'insert 18446744073709551616 1', ' insert  1  2 ',
+             'new', 'new wide', 'new tall 3',
              'new wide 4097', 'new narrow 4096', 'new wide 3 3', 'lend 8201', 'lend 8200', 'lend x', 'lend',
              'load 1 maybe 2', 'load 1 known', 'load x known 1', 'load 1 known x', 'poke', 'poke 8199 1 2',
              'poke 8199 1', 'poke 18446744073709551615 1', 'poke 0 1 x', 'show me', 'slots', 'slots 8201', 'slots x',
@@ -676,8 +795,9 @@ def nonsense(rng):
         yield block
 
 
-STORE = [store_remove_places, store_remove_small, store_coalesce_small, store_add_within_small, store_octets_small, store_edges,
-         store_lists, store_broken, store_history]
+STORE = [store_remove_places, store_insert_places, store_insert_checks, store_insert_slots, store_remove_small, store_insert_small,
+         store_coalesce_small, store_add_within_small, store_octets_small, store_edges, store_lists, store_broken, store_history,
+         store_insert_history, store_insert_full]
 REST = [events_small, records_small, records_edges, events_history, events_wide_lists, records_broken, pdus_lengths,
         pdus_limits, pdus_written, pdus_read, sequences_runs, sequences_any, nonsense]
 
@@ -686,9 +806,17 @@ GREW = {'whole': -1, 'left': 0, 'right': 0, 'split': 1}
 REMOVED = {*(f'removed {what} {place} {width}' for what in GREW for place in ('only', 'first', 'middle', 'last')
              for width in WIDTHS), *(f'removed none {width}' for width in WIDTHS)}
 
+# How a range that is put in meets the list (document 02, C-19): what takes no slot is taken by a full list too.
+JOINS = ('inside', 'left', 'right', 'both', 'over', 'across')
+APART = ('empty', 'before', 'between', 'behind')
+INSERTED = {f'{answer} {meeting} {room} {width}' for width in WIDTHS for answer, meetings, room in
+            (('inserted', JOINS, 'full'), ('inserted', JOINS + APART, 'room'), ('refused 1', APART, 'full'))
+            for meeting in meetings}
+
 # What a full run must meet at least once: by command, first words of answers and refusal numbers.
 REACH = {
     'add': {'added', 1, 2, 3, 4, 10},
+    'insert': INSERTED | {'inserted', 1, 2, 3, 4, 8, 10},
     'remove': REMOVED | {1, 2, 3, 4, 5, 8, 10},
     'coalesce': {'coalesced', 10},
     'within': {'yes', 'no', 10},
@@ -701,6 +829,7 @@ REACH = {
 }
 RUST_REACH = {
     'add': {'added', 1, 2, 3, 4},
+    'insert': {'inserted', 1, 2, 3, 4},
     'remove': {'removed true', 'removed false', 1, 2, 3, 4, 5},
     'coalesce': {'coalesced'},
     'within': {'yes', 'no'},
@@ -722,15 +851,35 @@ def kind(answer):
     return parts[0]
 
 
+def meeting(pairs, s, e):
+    """How (s, e) meets the ranges of a coalesced list, as the tables above name it: left and right are touches and no more."""
+    if not pairs:
+        return 'empty'
+    joined = [(a, b) for a, b in pairs if a <= e and s <= b]
+    if not joined:
+        return 'before' if e < pairs[0][0] else 'behind' if pairs[-1][1] < s else 'between'
+    (a, b), last = joined[0], joined[-1]
+    if len(joined) > 1:
+        return 'both' if len(joined) == 2 and b == s and e == last[0] else 'across'
+    return 'inside' if a <= s and e <= b else 'left' if b == s else 'right' if e == a else 'over'
+
+
 def met(lines, expected):
-    """(command, kind) of each answer to these lines; of a removal with the store's width."""
-    width = 'wide'
+    """(command, kind) of each answer to these lines; of a removal with the store's width, of an insert also how it met
+    the list where the line before showed that."""
+    width, shown = 'wide', None
     for at, answer in expected:
         parts = lines[at - 1].split() or ['']
         if parts[0] == 'new' and answer == ['ok']:
             width = parts[1]
         for said in answer:
             yield parts[0], f'{kind(said)} {width}' if said.startswith('removed ') else kind(said)
+        if parts[0] == 'insert' and shown and (answer[0] == 'refused 1' or answer[0].startswith('inserted ')):
+            length, count, numbers = int(shown[1]), int(shown[2]), [int(n) for n in shown[5:]]
+            how = meeting(list(zip(numbers[::2], numbers[1::2])), int(parts[1]), int(parts[2]))
+            said = 'refused 1' if answer == ['refused 1'] else 'inserted'
+            yield 'insert', f'{said} {how} {"full" if count == length // 2 else "room"} {width}'
+        shown = answer[0].split(' ') if parts[0] == 'show' else None
 
 
 def as_the_rust(answer):

@@ -70,6 +70,52 @@ static void removals(void) {
     }
 }
 
+/* Ranges put before, between and behind three pairs, touching, inside, over and across them; on wide and narrow stores, full and with room
+ * for one pair: a full one takes what joins, and nothing else. */
+static void insertions(void) {
+    static const uint64_t was[8] = {10, 20, 30, 40, 50, 60, 7, 8};
+    static const struct {
+        uint64_t start, end, count, left[8];
+    } cases[] = {
+        {0, 9, 4, {0, 9, 10, 20, 30, 40, 50, 60}},
+        {22, 28, 4, {10, 20, 22, 28, 30, 40, 50, 60}},
+        {41, 49, 4, {10, 20, 30, 40, 41, 49, 50, 60}},
+        {61, 62, 4, {10, 20, 30, 40, 50, 60, 61, 62}},
+        {0, 10, 3, {0, 20, 30, 40, 50, 60, 7, 8}},
+        {20, 29, 3, {10, 29, 30, 40, 50, 60, 7, 8}},
+        {21, 30, 3, {10, 20, 21, 40, 50, 60, 7, 8}},
+        {60, 61, 3, {10, 20, 30, 40, 50, 61, 7, 8}},
+        {10, 20, 3, {10, 20, 30, 40, 50, 60, 7, 8}},
+        {31, 39, 3, {10, 20, 30, 40, 50, 60, 7, 8}},
+        {55, 60, 3, {10, 20, 30, 40, 50, 60, 7, 8}},
+        {25, 45, 3, {10, 20, 25, 45, 50, 60, 7, 8}},
+        {20, 30, 2, {10, 40, 50, 60, 0, 0, 7, 8}},
+        {40, 50, 2, {10, 20, 30, 60, 0, 0, 7, 8}},
+        {15, 31, 2, {10, 40, 50, 60, 0, 0, 7, 8}},
+        {39, 55, 2, {10, 20, 30, 60, 0, 0, 7, 8}},
+        {20, 50, 1, {10, 60, 0, 0, 0, 0, 7, 8}},
+        {0, 70, 1, {0, 70, 0, 0, 0, 0, 7, 8}},
+    };
+    uint64_t list[8], narrow;
+    size_t i;
+
+    for (narrow = 0; narrow < 2; narrow++) {
+        for (i = 0; i < sizeof cases / sizeof cases[0]; i++) {
+            memcpy(list, was, sizeof was);
+            ACCEPTED(pusmarke_insert(list, 8, 3, narrow, cases[i].start, cases[i].end), cases[i].count, 0, 0);
+            SAME(cases[i].left, list);
+            memcpy(list, was, sizeof was);
+            if (cases[i].count > 3) {
+                REFUSED(pusmarke_insert(list, 6, 3, narrow, cases[i].start, cases[i].end), PUSMARKE_STORE_FULL);
+                SAME(was, list);
+            } else {
+                ACCEPTED(pusmarke_insert(list, 6, 3, narrow, cases[i].start, cases[i].end), cases[i].count, 0, 0);
+                SAME(cases[i].left, list);
+            }
+        }
+    }
+}
+
 static void store(void) {
     uint64_t list[6] = {10, 20, 30, 40, 7, 8};
     const uint64_t was[6] = {10, 20, 30, 40, 7, 8};
@@ -78,7 +124,9 @@ static void store(void) {
     const uint64_t apart[8] = {30, 40, 10, 20, 20, 30, 12, 13};
     const uint64_t run[8] = {10, 40, 0, 0, 0, 0, 0, 0};
     const uint64_t wide[4] = {1, 2, 3, 4294967296u};
-    uint64_t other[8];
+    const uint64_t last[6] = {10, 20, 30, 40, 50, UINT64_MAX};
+    const uint64_t first[8] = {0, NARROW_LIMIT, 10, 20, 20, 30, 12, 13};
+    uint64_t other[8], unfit[4];
     uint8_t buf[16], kept[16];
     const uint8_t octets[16] = {0, 0, 0, 10, 0, 0, 0, 20, 0, 0, 0, 30, 0, 0, 0, 40};
     const uint8_t octets8[16] = {0, 0, 0, 0, 0, 0, 0, 10, 0, 0, 0, 0, 0, 0, 0, 20};
@@ -126,6 +174,31 @@ static void store(void) {
     ACCEPTED(pusmarke_coalesce(other, 8, 4, 0), 1, 0, 0);
     SAME(run, other);
     ACCEPTED(pusmarke_coalesce(NULL, 0, 0, 0), 0, 0, 0);
+
+    /* insert: each refusal, with faults behind it that it comes before */
+    memcpy(list, was, sizeof was);
+    memcpy(other, apart, sizeof apart);
+    REFUSED(pusmarke_insert(list, 5, 2, 0, 60, 50), PUSMARKE_BAD_STORE);
+    REFUSED(pusmarke_insert(list, 6, 4, 0, 50, 50), PUSMARKE_BAD_STORE);
+    REFUSED(pusmarke_insert(list, 6, SIZE_MAX, 0, 50, 60), PUSMARKE_BAD_STORE);
+    REFUSED(pusmarke_insert(long_list, 2 * PAIRS, 0, 0, 50, 60), PUSMARKE_BAD_STORE);
+    REFUSED(pusmarke_insert(NULL, 0, 1, 0, 50, 60), PUSMARKE_BAD_STORE);
+    memcpy(unfit, wide, sizeof wide);
+    REFUSED(pusmarke_insert(unfit, 4, 2, 9, 50, 60), PUSMARKE_BAD_STORE);
+    SAME(wide, unfit);
+    REFUSED(pusmarke_insert(other, 8, 4, 1, 4294967296u, 4294967296u), PUSMARKE_EMPTY_SEGMENT);
+    CARRIES(pusmarke_insert(other, 8, 4, 1, 4294967296u, 50), PUSMARKE_START_LARGER_THAN_END, 4294967296u, 50);
+    REFUSED(pusmarke_insert(other, 8, 4, 1, 50, 4294967296u), PUSMARKE_LARGE_FILE_SEGMENT_NOT_SUPPORTED);
+    REFUSED(pusmarke_insert(other, 8, 4, 0, 50, 60), PUSMARKE_NOT_COALESCED);
+    REFUSED(pusmarke_insert(list, 6, 3, 0, 50, 60), PUSMARKE_NOT_COALESCED);
+    REFUSED(pusmarke_insert(list, 4, 2, 0, 50, 60), PUSMARKE_STORE_FULL);
+    REFUSED(pusmarke_insert(NULL, 0, 0, 0, 50, 60), PUSMARKE_STORE_FULL);
+    SAME(was, list);
+    SAME(apart, other);
+    ACCEPTED(pusmarke_insert(list, 6, 2, 0, 50, UINT64_MAX), 3, 0, 0);
+    SAME(last, list);
+    ACCEPTED(pusmarke_insert(other, 8, 0, 1, 0, NARROW_LIMIT), 1, 0, 0);
+    SAME(first, other);
 
     /* segment_in_store */
     ACCEPTED(pusmarke_segment_in_store(was, 6, 2, 0, 12, 18), 1, 0, 0);
@@ -452,6 +525,7 @@ static void transfer(void) {
 int main(void) {
     store();
     removals();
+    insertions();
     events();
     writing();
     reading();

@@ -127,6 +127,14 @@ struct pusmarke_answer pusmarke_remove(uint64_t *list, size_t list_length, size_
  * Accepted: first is the new count. Refusals: 10. */
 struct pusmarke_answer pusmarke_coalesce(uint64_t *list, size_t list_length, size_t count, uint64_t narrow);
 
+/* Puts (start, end) into a coalesced list, which stays so: the counted pairs are then the maximal runs of the old ones and the new one.
+ * Pairs that it shares an offset with or touches become one with it, so a full list takes a pair that joins.
+ * Accepted: first is the new count.
+ * Refusals: 10; 2 start equals end; 3 start above end; 4 narrow, and either number above 4,294,967,295; 8 list not coalesced; 1 the list
+ * would have more pairs than the capacity. */
+struct pusmarke_answer pusmarke_insert(uint64_t *list, size_t list_length, size_t count, uint64_t narrow, uint64_t start,
+    uint64_t end);
+
 /* Whether some counted pair (s, e) has start at least s and end at most e. (start, end) is not checked.
  * Accepted: first is 1 for yes and 0 for no. Refusals: 10. */
 struct pusmarke_answer pusmarke_segment_in_store(const uint64_t *list, size_t list_length, size_t count, uint64_t narrow,

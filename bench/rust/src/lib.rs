@@ -86,6 +86,12 @@ pub extern "C" fn rust_coalesce(store: &mut LostSegmentsList) -> u64 {
 }
 
 #[no_mangle]
+pub extern "C" fn rust_add_and_coalesce(store: &mut LostSegmentsList, start: u64, end: u64) -> u64 {
+    let added = store.add_lost_segment((start, end));
+    added.and_then(|_| store.coalesce_lost_segments()).map_or(REFUSED, |_| 0)
+}
+
+#[no_mangle]
 pub extern "C" fn rust_segment_in_store(store: &LostSegmentsList, start: u64, end: u64) -> u64 {
     store.segment_in_store((start, end)) as u64
 }

@@ -63,6 +63,7 @@ extern "C" {
     pub(crate) fn pusmarke_add(list: *mut u64, list_length: usize, count: usize, narrow: u64, start: u64, end: u64) -> Answer;
     pub(crate) fn pusmarke_remove(list: *mut u64, list_length: usize, count: usize, narrow: u64, start: u64, end: u64) -> Answer;
     pub(crate) fn pusmarke_coalesce(list: *mut u64, list_length: usize, count: usize, narrow: u64) -> Answer;
+    pub(crate) fn pusmarke_insert(list: *mut u64, list_length: usize, count: usize, narrow: u64, start: u64, end: u64) -> Answer;
     pub(crate) fn pusmarke_segment_in_store(
         list: *const u64,
         list_length: usize,

@@ -113,7 +113,8 @@ impl Removed {
 }
 
 /// A store of lost segments over a flat list of pairs that the caller lends: start and end by turns. The methods are those of
-/// cfdp-rs's `LostSegmentStore`; removing says more than whether it did.
+/// cfdp-rs's `LostSegmentStore`, of which removing says more than whether it did, and one more, `insert_lost_segment`, which adds and
+/// coalesces in one.
 #[derive(Debug)]
 pub struct Store<'a> {
     list: &'a mut [u64],
@@ -200,6 +201,17 @@ impl<'a> Store<'a> {
     /// Leaves the maximal runs of the stored ranges, ascending; a range with its end at most its start is dropped. Never refused.
     pub fn coalesce_lost_segments(&mut self) -> Result<(), Refusal> {
         let answer = unsafe { ffi::pusmarke_coalesce(self.list.as_mut_ptr(), self.list.len(), self.count, self.width.mark()) };
+        self.count = answer.accepted()?.first as usize;
+        Ok(())
+    }
+
+    /// Puts a range into a coalesced list, which stays coalesced: ranges that it overlaps or touches become one with it. So a full
+    /// store takes a range that joins, and a store that ranges are only inserted into and removed from never refuses with 8.
+    /// Refused: 2, 3, 4, 8 and 1.
+    pub fn insert_lost_segment(&mut self, lost_seg: (u64, u64)) -> Result<(), Refusal> {
+        let answer = unsafe {
+            ffi::pusmarke_insert(self.list.as_mut_ptr(), self.list.len(), self.count, self.width.mark(), lost_seg.0, lost_seg.1)
+        };
         self.count = answer.accepted()?.first as usize;
         Ok(())
     }

@@ -31,6 +31,49 @@ fn removes() {
 }
 
 #[test]
+fn inserts() {
+    let store_full = Err(Refusal::StoreFull);
+    let cases: [(_, usize, Result<(), Refusal>, &[(u64, u64)]); 14] = [
+        ((20, 30), 2, Ok(()), &[(10, 40)]),
+        ((20, 25), 2, Ok(()), &[(10, 25), (30, 40)]),
+        ((25, 30), 2, Ok(()), &[(10, 20), (25, 40)]),
+        ((12, 18), 2, Ok(()), &[(10, 20), (30, 40)]),
+        ((5, 25), 2, Ok(()), &[(5, 25), (30, 40)]),
+        ((0, 50), 2, Ok(()), &[(0, 50)]),
+        ((0, 5), 2, store_full, &[(10, 20), (30, 40)]),
+        ((21, 29), 2, store_full, &[(10, 20), (30, 40)]),
+        ((50, 60), 2, store_full, &[(10, 20), (30, 40)]),
+        ((0, 5), 3, Ok(()), &[(0, 5), (10, 20), (30, 40)]),
+        ((21, 29), 3, Ok(()), &[(10, 20), (21, 29), (30, 40)]),
+        ((50, 60), 3, Ok(()), &[(10, 20), (30, 40), (50, 60)]),
+        ((12, 12), 2, Err(Refusal::EmptySegment), &[(10, 20), (30, 40)]),
+        ((18, 12), 2, Err(Refusal::StartLargerThanEnd(18, 12)), &[(10, 20), (30, 40)]),
+    ];
+    for (range, capacity, answer, left) in cases {
+        let mut list = [10, 20, 30, 40, 0, 0];
+        let mut store = Store::with_segments(&mut list[..2 * capacity], 2, Width::Wide).unwrap();
+        assert_eq!(store.insert_lost_segment(range), answer, "{range:?}");
+        assert_eq!((ranges(&store).as_slice(), store.number_of_segments()), (left, left.len()));
+    }
+}
+
+#[test]
+fn inserts_only_into_coalesced_lists() {
+    let mut list = [10, 20, 20, 30, 0, 0];
+    let mut store = Store::with_segments(&mut list, 2, Width::Narrow).unwrap();
+    assert_eq!(store.insert_lost_segment((40, 4294967296)), Err(Refusal::LargeFileSegmentNotSupported));
+    assert_eq!(store.insert_lost_segment((40, 50)), Err(Refusal::NotCoalesced));
+    store.coalesce_lost_segments().unwrap();
+    // From here on ranges are only inserted and removed, and none of it is refused with 8.
+    for range in [(40, 50), (60, 70), (50, 60), (0, 4294967295)] {
+        assert_eq!(store.insert_lost_segment(range), Ok(()));
+    }
+    assert_eq!(store.remove_lost_segment((10, 20)), Ok(Removed::Split { index: 0, count: 2 }));
+    assert_eq!(store.insert_lost_segment((10, 20)), Ok(()));
+    assert_eq!(ranges(&store), [(0, 4294967295)]);
+}
+
+#[test]
 fn adds_and_coalesces() {
     let mut list = [0; 8];
     let mut store = Store::new(&mut list, Width::Narrow).unwrap();
@@ -73,6 +116,7 @@ fn refuses_lists() {
     assert_eq!(Store::with_segments(&mut [0, 4294967296], 1, Width::Narrow).unwrap_err(), Refusal::BadStore);
     let mut none = Store::new(&mut [], Width::Wide).unwrap();
     assert_eq!(none.add_lost_segment((1, 2)), Err(Refusal::StoreFull));
+    assert_eq!(none.insert_lost_segment((1, 2)), Err(Refusal::StoreFull));
     assert_eq!(none.write_segments_to_bytes(&mut [], FileFlag::Normal), Ok(0));
 }
 

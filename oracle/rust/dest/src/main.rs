@@ -41,6 +41,18 @@ fn remove(list: &[(u64, u64)], a: u64, b: u64) -> String {
     format!("{answer}, list {}", pairs(store.iter()))
 }
 
+// Add and then coalesce, on a store of this capacity.
+fn insert(list: &[(u64, u64)], capacity: usize, s: u64, e: u64) -> String {
+    seed::plant(list);
+    let mut store = LostSegmentsList::new(Some(capacity));
+    let answer = match store.add_lost_segment((s, e)) {
+        Ok(()) => "added".into(),
+        Err(error) => name(&error),
+    };
+    store.coalesce_lost_segments().unwrap();
+    format!("{answer}, then coalesced, list {}", pairs(store.iter()))
+}
+
 fn handler(
     list: &[(u64, u64)],
     capacity: usize,
@@ -112,6 +124,9 @@ fn main() {
     say("remove-inside", remove(&[(0, 2), (0, 1)], 0, 2));
     say("remove-shares", remove(&[(0, 2), (0, 1)], 1, 2));
     say("remove-twice", remove(&[(0, 1), (0, 1)], 0, 1));
+    say("insert-room", insert(&[(0, 1)], 4, 1, 2));
+    say("insert-full", insert(&[(0, 1)], 1, 1, 2));
+    say("insert-uncoalesced", insert(&[(1, 2), (0, 1)], 4, 3, 4));
     let store = seeded(&[(0, 1), (2, TWO32)]);
     let mut buf = [0x5a; 16];
     let error = store.write_segments_to_bytes(&mut buf, Normal).unwrap_err();

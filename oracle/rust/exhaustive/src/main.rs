@@ -1,7 +1,8 @@
 // Holds the Rust against sets of offsets, kept as the bits of a number, on every case of small size:
 //   exhaustive [BITS]
 // remove: every coalesced list of the offsets below BITS (14), every pair up to one past them, full
-// and with room for one more; coalesce and segment_in_store: every list of up to four pairs of the
+// and with room for one more; add and then coalesce (document 02's insert), with room: the same
+// lists, every range up to one past them; coalesce and segment_in_store: every list of up to four pairs of the
 // numbers 0 to 4; each near 0, across 2^32 and below 2^64 (narrow: near 0 and below 2^32), on the
 // growing list and the two fixed ones.
 use store::lost_segments::*;
@@ -141,6 +142,39 @@ fn removes(bits: u64) -> u64 {
     calls
 }
 
+// Document 02's insert, C-19, is an append with room and then coalesce: the runs of the union.
+fn ask_insert(store: &mut impl LostSegmentStore, s: u64, e: u64) -> Pairs {
+    store.add_lost_segment((s, e)).unwrap();
+    store.coalesce_lost_segments().unwrap();
+    store.iter().collect()
+}
+
+fn inserts(bits: u64) -> u64 {
+    let mut calls = 0;
+    for (base, is_narrow) in bases(bits + 1) {
+        for set in 0..1u64 << bits {
+            let pairs = moved(&runs(set), base);
+            let capacity = pairs.len() + 1;
+            for a in 0..=bits + 1 {
+                for b in a + 1..=bits + 1 {
+                    let (x, y) = (a + base, b + base);
+                    let what = || format!("add ({x}, {y}) and coalesce on {pairs:?}, narrow {is_narrow}");
+                    let want = moved(&runs(set | span(a, b)), base);
+                    if is_narrow {
+                        with_capacity!(capacity, N, agree(ask_insert(&mut narrow::<N>(&pairs), x, y), want, what));
+                        calls += 1;
+                    } else {
+                        agree(ask_insert(&mut wide(&pairs, capacity), x, y), want.clone(), what);
+                        with_capacity!(capacity, N, agree(ask_insert(&mut fixed::<N>(&pairs), x, y), want, what));
+                        calls += 2;
+                    }
+                }
+            }
+        }
+    }
+    calls
+}
+
 fn ask_coalesce(mut store: impl LostSegmentStore) -> Pairs {
     store.coalesce_lost_segments().unwrap();
     store.iter().collect()
@@ -197,7 +231,9 @@ fn coalesces() -> u64 {
 
 fn main() {
     let bits = std::env::args().nth(1).map_or(14, |word| word.parse().expect("a number"));
-    let removed = removes(bits);
-    let coalesced = coalesces();
-    println!("{} calls of remove, {} of coalesce and segment_in_store: the Rust agrees with sets of offsets", removed, coalesced);
+    let (removed, inserted, coalesced) = (removes(bits), inserts(bits), coalesces());
+    println!(
+        "{removed} calls of remove, {inserted} of add and coalesce, {coalesced} of coalesce and segment_in_store: \
+        the Rust agrees with sets of offsets"
+    );
 }

@@ -56,6 +56,17 @@ fn has_fixed(n: usize) -> bool {
     fixed!(n, u64).is_some()
 }
 
+// The fixed lists with room for an append: of a list of up to 4,096 ranges too.
+macro_rules! roomy {
+    ($count:expr, $t:ty) => {
+        match $count {
+            0..=8 => Box::new(LostSegmentsListHeapless::<9, $t>::new()) as Box<dyn Store>,
+            9..=64 => Box::new(LostSegmentsListHeapless::<65, $t>::new()),
+            _ => Box::new(LostSegmentsListHeapless::<4097, $t>::new()),
+        }
+    };
+}
+
 struct Console {
     memory: Vec<u64>,
     length: usize,
@@ -164,9 +175,52 @@ impl Console {
         Some(())
     }
 
-    // Puts the list of the stores into memory; slots that it gave up hold 0, as document 01 says.
-    fn keep(&mut self) {
-        let list = self.live[0].list();
+    // Stores of the list that lies in memory, each with room for one range more than it has.
+    fn with_room(&self) -> Vec<Box<dyn Store>> {
+        let count = self.count as usize;
+        let flat = &self.memory[..2 * count];
+        if self.narrow {
+            let pairs: Vec<_> = flat.chunks(2).map(|p| (p[0] as u32, p[1] as u32)).collect();
+            seed::plant(&pairs);
+            return vec![roomy!(count, u32)];
+        }
+        let pairs: Vec<_> = flat.chunks(2).map(|p| (p[0], p[1])).collect();
+        seed::plant(&pairs);
+        let growing = Box::new(LostSegmentsList::new(Some(count + 1)));
+        seed::plant(&pairs);
+        vec![growing, roomy!(count, u64)]
+    }
+
+    // Document 02's insert (C-19), which the Rust has not: its add, then its coalesce, on stores with room. Refused as
+    // by add; 1 where the list is then longer than the capacity. Outside: a list that is not coalesced.
+    fn insert(&mut self, s: u64, e: u64) -> Option<String> {
+        let ascending = self.coalesced();
+        let mut stores = self.with_room();
+        let added = stores.iter_mut().map(|store| store.add(s, e).map_or_else(refused, |_| "added".into()));
+        let answer = agreed(added.collect());
+        if answer != "added" {
+            return Some(answer);
+        }
+        if !ascending {
+            return None;
+        }
+        for store in &mut stores {
+            store.coalesce().expect("coalesce refuses nothing");
+        }
+        let list = stores[0].list();
+        if stores.iter().any(|store| store.list() != list) {
+            return Some("the Rust's stores part: lists".into());
+        }
+        if list.len() > self.length / 2 {
+            return Some("refused 1".into());
+        }
+        self.put(&list);
+        self.live.clear();
+        Some(format!("inserted {}", list.len()))
+    }
+
+    // Puts a list into memory; slots that it gave up hold 0, as document 01 says.
+    fn put(&mut self, list: &[(u64, u64)]) {
         let before = 2 * self.count as usize;
         self.count = list.len() as u64;
         for (i, (s, e)) in list.iter().enumerate() {
@@ -176,6 +230,11 @@ impl Console {
         for at in 2 * list.len()..before {
             self.memory[at] = 0;
         }
+    }
+
+    fn keep(&mut self) {
+        let list = self.live[0].list();
+        self.put(&list);
     }
 
     fn same_lists(&self) -> bool {
@@ -265,6 +324,11 @@ impl Console {
                     Ok(()) => format!("added {}", store.list().len()),
                     Err(error) => refused(error),
                 })
+            }
+            ["insert", s, e] => {
+                let (s, e) = (number(s)?, number(e)?);
+                self.wake()?;
+                self.insert(s, e)
             }
             ["remove", a, b] => {
                 let (a, b) = (number(a)?, number(b)?);
