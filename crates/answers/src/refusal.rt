@@ -33,6 +33,7 @@ pub fn of_refusal(r: Refusal) -> PusmarkeAnswer
         Refusal::ScopeReversed => bare(18),
         Refusal::AlreadyKnown => bare(19),
         Refusal::BudgetTooLarge => bare(20),
+        Refusal::FileSizeError => bare(22),
     }
 }
 

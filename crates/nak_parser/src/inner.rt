@@ -213,6 +213,7 @@ pub fn refused(r: Refusal, length: usize) -> Parsed
         Refusal::ScopeReversed => refused_by(18, 0, 0, length),
         Refusal::AlreadyKnown => refused_by(19, 0, 0, length),
         Refusal::BudgetTooLarge => refused_by(20, 0, 0, length),
+        Refusal::FileSizeError => refused_by(22, 0, 0, length),
     }
 }
 

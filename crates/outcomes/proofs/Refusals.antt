@@ -38,7 +38,8 @@ refusalBack o =
     (cond (eqb (o .number) 17) refusal.NotNak
     (cond (eqb (o .number) 18) refusal.ScopeReversed
     (cond (eqb (o .number) 19) refusal.AlreadyKnown
-    refusal.BudgetTooLarge)))))))))))))))))))
+    (cond (eqb (o .number) 20) refusal.BudgetTooLarge
+    refusal.FileSizeError))))))))))))))))))))
 
 pub refusal-back : (r : Refusal) → refusalBack (refusing r) ≡ r
 refusal-back refusal.StoreFull = refl
@@ -61,6 +62,7 @@ refusal-back refusal.NotNak = refl
 refusal-back refusal.ScopeReversed = refl
 refusal-back refusal.AlreadyKnown = refl
 refusal-back refusal.BudgetTooLarge = refl
+refusal-back refusal.FileSizeError = refl
 
 pub one-refusal : (r s : Refusal) → refusing r ≡ refusing s → r ≡ s
 one-refusal = apart refusing refusalBack refusal-back
@@ -86,6 +88,7 @@ refuses refusal.NotNak = refl
 refuses refusal.ScopeReversed = refl
 refuses refusal.AlreadyKnown = refl
 refuses refusal.BudgetTooLarge = refl
+refuses refusal.FileSizeError = refl
 
 pub no-refusal : (r : Refusal) {vs : List ℕ} → refusing r ≡ accepted vs → ⊥
 no-refusal r e = true≢false (ap (λ (o : Outcome). eqb (o .number) 0) (sym e) ∙ refuses r)

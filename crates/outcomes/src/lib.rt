@@ -25,6 +25,7 @@ pub enum Refusal {
     ScopeReversed,
     AlreadyKnown,
     BudgetTooLarge,
+    FileSizeError,
 }
 
 // What the checks of a call say: it may go on, or the refusal.

@@ -9,6 +9,10 @@ use Rattle.outcomes.specs.declared.Refusal.{Refusal}
 use Rattle.outcomes.proofs.Refusals.{one-refusal, no-refusal, value}
 use Rattle.reception.specs.Data.{dataCase}
 use Rattle.reception.specs.Metadata.{metadataCase}
+use Rattle.reception.specs.Eof.{eofCase}
+use Rattle.reception.specs.declared.eof.EofAnswer.{EofAnswer}
+use Rattle.reception.specs.declared.eof.EofAnswer.the-variants as eof
+use Rattle.reception.specs.declared.eof.EofDone.{EofDone}
 use Rattle.reception.specs.declared.data.DataDone.{DataDone}
 use Rattle.reception.specs.declared.metadata.MetadataDone.{MetadataDone}
 use Rattle.reception.specs.declared.data.DataAnswer.{DataAnswer}
@@ -39,3 +43,12 @@ one-data-done r s a e = λ i. record { answer = one-data (r .answer) (s .answer)
 
 pub one-metadata-done : (r s : MetadataDone) → metadataCase (r .answer) ≡ metadataCase (s .answer) → r .rec ≡ s .rec → r ≡ s
 one-metadata-done r s a e = λ i. record { answer = one-metadata (r .answer) (s .answer) a i; rec = e i }
+
+pub one-eof : (r s : EofAnswer) → eofCase r ≡ eofCase s → r ≡ s
+one-eof eof.Ended eof.Ended e = refl
+one-eof eof.Ended (eof.Refused s) e = absurd (no-refusal s (sym e))
+one-eof (eof.Refused r) eof.Ended e = absurd (no-refusal r e)
+one-eof (eof.Refused r) (eof.Refused s) e = ap (λ (q : Refusal). eof.Refused q) (one-refusal r s e)
+
+pub one-eof-done : (r s : EofDone) → eofCase (r .answer) ≡ eofCase (s .answer) → r .rec ≡ s .rec → r ≡ s
+one-eof-done r s a e = λ i. record { answer = one-eof (r .answer) (s .answer) a i; rec = e i }

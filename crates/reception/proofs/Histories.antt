@@ -9,6 +9,7 @@ use Prim.Native.Nat.{ℕ, zero, suc, _+_, _*_, _≤_, _<_, max}
 use native.Mathlib.Omega.{arith}
 use native.Mathlib.Decide.{decLt}
 use lib.ListN.{length}
+use borrow.Author.Tests.{ltb-false}
 use Rattle.ranges.specs.Range.{Range, range, In, Covers, Coalesced, lastEnd}
 use Rattle.ranges.specs.Run.{RunsOf}
 use Rattle.ranges.specs.Store.{stored, mostPairs}
@@ -17,12 +18,16 @@ use Rattle.ranges.specs.declared.Width.{Width}
 use Rattle.ranges.proofs.Runs.{runs-of}
 use Rattle.ranges.proofs.Stored.{counted-stored}
 use Rattle.ranges.proofs.Without.{part-covers, length-part}
-use Rattle.reception.specs.Record.{waitingRanges, known as cleared, Passed}
+use Rattle.reception.specs.Record.{waitingRanges, known as cleared, ended, Passed}
+use Rattle.ranges.specs.Insert.{join}
+use Rattle.reception.specs.Eof.{eofLeaves}
+use Rattle.reception.proofs.eof.Accepted.{EofTaken, eof-taken}
+use Rattle.reception.proofs.eof.Tail.{tail-whole, tail-covers, tail-last, tail-length}
 use Rattle.reception.specs.Data.{keptRanges, dataLeaves, advanced}
-use Rattle.reception.specs.History.{Event, Data, Metadata, State, fresh, isAccepted, step, run, isMetadataCome, keptBy, keptFrom, kept, acceptedOf, Missing, rangesOf}
+use Rattle.reception.specs.History.{Event, Data, Metadata, Eof, State, fresh, isAccepted, step, run, isMetadataCome, keptBy, keptFrom, kept, acceptedOf, Missing, rangesOf}
 use Rattle.reception.proofs.Keeping.{kept-covers, length-kept}
 use Rattle.reception.proofs.Records.{refused-same, step-mark, progress-largest}
-use Rattle.reception.proofs.Standing.{Standing, standing-passed, standing-stored, standing-fresh, after-whole, after-last}
+use Rattle.reception.proofs.Standing.{Standing, standing-passed, standing-stored, standing-ended, standing-fresh, after-whole, after-last}
 use Rattle.reception.proofs.data.Accepted.{Taken, taken}
 
 -- what holds on the way: P are the offsets kept so far, n the events accepted
@@ -72,6 +77,7 @@ module _ (s : State) (N : ℕ) (P : ℕ → Type 0) (n : ℕ) (h : Holds s N P n
       (after-last (s .rec .missing) (s .rec .progress) o (o + z) (rangesOf s) ordered (g .whole) (g .last))
       (omega arith)
       (λ m. rw m)
+      (λ e. let d = g .told e in let w : o + z ≤ s .rec .size = ltb-false _ _ (rw e at (t .checks .within)) in omega arith)
 
   kept-known : s .rec .missing ≡ false → Holds next N (λ x. Covers x (range o (o + z) ∷ []) ⊎ P x) (suc n)
   unfolding next
@@ -126,6 +132,70 @@ module _ (s : State) (N : ℕ) (P : ℕ → Type 0) (n : ℕ) (h : Holds s N P n
         runs = rw q (omega arith);
       }
 
+-- an accepted EOF
+module _ (s : State) (N : ℕ) (P : ℕ → Type 0) (n : ℕ) (h : Holds s N P n) (z : ℕ) (t : EofTaken (s .rec) (s .list) z) where
+  end : State
+  end = record { rec = ended (s .rec) z (length (eofLeaves (s .rec) (s .list) z)); list = stored (eofLeaves (s .rec) (s .list) z) (s .rec .count) (s .list) }
+
+  held : rangesOf end ≡ eofLeaves (s .rec) (s .list) z
+  unfolding end
+  held = counted-stored (eofLeaves (s .rec) (s .list) z) (s .rec .count) (s .list)
+
+  stands-ended : Standing end N
+  unfolding end
+  stands-ended =
+      let g = h .standing in
+      let c = g .size in
+      let r = t .room in
+      standing-ended s N g (eofLeaves (s .rec) (s .list) z) z (omega arith)
+      (tail-whole (s .rec .missing) (s .rec .progress) z (rangesOf s) (g .whole))
+      (tail-last (s .rec .missing) (s .rec .progress) z (rangesOf s) (g .whole) (g .last) (t .above))
+      (t .checks .small)
+      (λ m. rw m)
+
+  ended-known : s .rec .missing ≡ false → Holds end N P (suc n)
+  unfolding end
+  ended-known m =
+      let g = h .standing in
+      let q : rangesOf end ≡ join (range (s .rec .progress) z) (rangesOf s) = held ∙ rw m in
+      let r = tail-length (s .rec .progress) z (rangesOf s) in
+      let l = h .runs in
+      let u = t .above in
+      record {
+        standing = stands-ended;
+        exact = λ x. rw q (λ k. to x (c x .0 k), λ w. c x .1 (from x w (decLt x (s .rec .progress))));
+        below = λ x k. let b = h .below x k in omega arith;
+        none = λ e. absurd (true≢false (sym e ∙ m));
+        runs = rw q (omega arith);
+      }
+    where
+      c : (x : ℕ) → Covers x (join (range (s .rec .progress) z) (rangesOf s)) ↔ (Covers x (rangesOf s) ⊎ In x (range (s .rec .progress) z))
+      c x = tail-covers (s .rec .progress) z (rangesOf s) (h .standing .whole) x
+
+      to : (x : ℕ) → Covers x (rangesOf s) ⊎ In x (range (s .rec .progress) z) → (x < z) × (P x → ⊥)
+      to x (inl k) = let w = h .exact x .0 k in let u = t .above in let v = w .0 in (omega arith, w .1)
+      to x (inr k) = (k .1, λ y. let b = h .below x y in omega (arith, k .0))
+
+      from : (x : ℕ) → (x < z) × (P x → ⊥) → Dec (x < s .rec .progress) → Covers x (rangesOf s) ⊎ In x (range (s .rec .progress) z)
+      from x w (yes u) = inl (h .exact x .1 (u, w .1))
+      from x w (no u) = inr (omega arith, w .0)
+
+  ended-waiting : s .rec .missing ≡ true → Holds end N P (suc n)
+  unfolding end
+  ended-waiting m =
+      let q : rangesOf end ≡ waitingRanges z = held ∙ rw m in
+      let r = length-part 0 z in
+      record {
+        standing = stands-ended;
+        exact = λ x. rw q (
+          λ k. (part-covers x 0 z .0 k .1, h .none m x),
+          λ w. part-covers x 0 z .1 (omega arith, w .0),
+        );
+        below = λ x y. absurd (h .none m x y);
+        none = λ e. h .none m;
+        runs = rw q (omega arith);
+      }
+
 -- the metadata event only clears the mark
 mark-cleared : (s : State) (N : ℕ) (P : ℕ → Type 0) (n : ℕ) → Holds s N P n
     → Holds (record { rec = cleared (s .rec); list = s .list }) N P (suc n)
@@ -133,7 +203,7 @@ mark-cleared s N P n h =
     let g = h .standing in
     let r = h .runs in
     record {
-      standing = record { size = g .size; few = g .few; room = g .room; held = g .held; whole = g .whole; last = g .last; small = g .small; waits = λ e. absurd (true≢false (sym e)) };
+      standing = record { size = g .size; few = g .few; room = g .room; held = g .held; whole = g .whole; last = g .last; small = g .small; waits = λ e. absurd (true≢false (sym e)); told = g .told };
       exact = h .exact;
       below = h .below;
       none = λ e. absurd (true≢false (sym e));
@@ -144,6 +214,7 @@ mark-cleared s N P n h =
 split-kept : (t : Bool) (e : Event) (rs : List Range) (x : ℕ) → Covers x (keptBy t e rs) ↔ (Covers x (keptBy t e []) ⊎ Covers x rs)
 split-kept true (Data o z) rs x = (⊎-elim (λ k. inl (inl k)) (λ k. inr k), ⊎-elim (⊎-elim (λ k. inl k) absurd) (λ k. inr k))
 split-kept true Metadata rs x = (λ k. inr k, ⊎-elim absurd (λ k. k))
+split-kept true (Eof z) rs x = (λ k. inr k, ⊎-elim absurd (λ k. k))
 split-kept false e rs x = (λ k. inr k, ⊎-elim absurd (λ k. k))
 
 -- one event, accepted or refused; `known` says that the metadata came before
@@ -165,7 +236,7 @@ module _ (s : State) (N : ℕ) (P : ℕ → Type 0) (n : ℕ) (h : Holds s N P n
 
   step-holds : (e : Event) (known : Bool) → s .rec .missing ≡ not known
       → Holds (step s e) N (with-kept (isAccepted s e && known) e) (cond (isAccepted s e) (suc n) n)
-  unfolding next
+  unfolding next end
   step-holds e known g = go e (isAccepted s e) refl known g
     where
       go : (e : Event) (t : Bool) → isAccepted s e ≡ t → (k : Bool) → s .rec .missing ≡ not k
@@ -178,8 +249,15 @@ module _ (s : State) (N : ℕ) (P : ℕ → Type 0) (n : ℕ) (h : Holds s N P n
           fits (Data o z) true true (next s N P n h o z t) (rw f) f (kept-known s N P n h o z t g)
       go Metadata true f false g = fits Metadata true false now-known (rw f) f (none-added now-known (suc n) (suc n) (omega arith) (mark-cleared s N P n h))
       go Metadata true f true g = fits Metadata true true now-known (rw f) f (none-added now-known (suc n) (suc n) (omega arith) (mark-cleared s N P n h))
+      go (Eof z) true f false g =
+          let t = eof-taken (s .rec) (s .list) z f in
+          fits (Eof z) true false (end s N P n h z t) (rw f) f (none-added (end s N P n h z t) (suc n) (suc n) (omega arith) (ended-waiting s N P n h z t g))
+      go (Eof z) true f true g =
+          let t = eof-taken (s .rec) (s .list) z f in
+          fits (Eof z) true true (end s N P n h z t) (rw f) f (none-added (end s N P n h z t) (suc n) (suc n) (omega arith) (ended-known s N P n h z t g))
       go (Data o z) false f k g = fits (Data o z) false k s (refused-same s (Data o z) f) f (none-added s n n (omega arith) h)
       go Metadata false f k g = fits Metadata false k s (refused-same s Metadata f) f (none-added s n n (omega arith) h)
+      go (Eof z) false f k g = fits (Eof z) false k s (refused-same s (Eof z) f) f (none-added s n n (omega arith) h)
 
 -- a list of events
 history : (es : List Event) (s : State) (N : ℕ) (P : ℕ → Type 0) (n : ℕ) (known : Bool) → s .rec .missing ≡ not known → Holds s N P n

@@ -1,9 +1,10 @@
 -- What a sound record has, in numbers; the checks behind those of the record; and check 10 in its parts.
 use mathlib.Core.Path.{_≡_, sym, _∙_}
-use mathlib.Core.Bool.{Bool, true, false, _&&_, not}
+use mathlib.Core.Bool.{Bool, true, false, _||_, not}
 use mathlib.Core.List.{List, [], _∷_, _++_}
 use Prim.Native.Nat.{ℕ, _≤_, _<_}
-use borrow.Author.Tests.{ltb-false, not-false, lt-ltb, le-ltb}
+use lib.Dec.{eqb}
+use borrow.Author.Tests.{eqb-true, ltb-false, not-false, lt-ltb, le-ltb}
 use Rattle.ranges.specs.Range.{Coalesced, lastEnd}
 use Rattle.ranges.specs.Store.{counted, limitOf, isBadStore}
 use Rattle.ranges.proofs.Test.{or-false, coalesced-of, of-coalesced}
@@ -14,12 +15,13 @@ use Rattle.outcomes.specs.declared.Refusal.{Refusal}
 use Rattle.outcomes.specs.Checks.{Check, firstOf, NoneOf}
 use Rattle.outcomes.proofs.FirstOf.{first-refused, first-append, first-none}
 use Rattle.reception.specs.declared.Reception.{Reception}
-use Rattle.reception.specs.Record.{isWaiting, isBadRecord, recordChecks, Passed}
+use Rattle.reception.specs.Record.{isWaiting, isWrongWait, isWrongSize, isBadRecord, recordChecks, Passed}
 
 pub record Sound (xs : List ℕ) (rec : Reception) : Type 0 where
   pub store : Good xs (rec .count) (limitOf (rec .width))
   pub small : rec .progress ≤ limitOf (rec .width)
   pub waits : rec .missing ≡ true → isWaiting (rec .progress) (counted xs (rec .count)) ≡ true
+  pub told : rec .sized ≡ true → rec .progress ≡ rec .size
   pub whole : Coalesced (counted xs (rec .count))
   pub above : lastEnd (counted xs (rec .count)) ≤ rec .progress
 
@@ -28,10 +30,12 @@ unfolding isBadRecord
 sound xs rec p =
     let a = or-false _ _ (p .0) in
     let b = or-false _ _ (a .1) in
+    let c = or-false (isWrongWait xs rec) (isWrongSize rec) (b .1) in
     record {
       store = good xs (rec .count) (limitOf (rec .width)) (a .0);
       small = ltb-false _ _ (b .0);
-      waits = λ m. not-false (isWaiting (rec .progress) (counted xs (rec .count))) (rw m at (b .1));
+      waits = λ m. not-false (isWaiting (rec .progress) (counted xs (rec .count))) (rw m at (c .0));
+      told = λ m. eqb-true _ _ (not-false (eqb (rec .progress) (rec .size)) (rw m at (c .1)));
       whole = coalesced-of (counted xs (rec .count)) (not-false _ (p .1 .0));
       above = ltb-false _ _ (p .1 .1 .0);
     }
@@ -65,9 +69,6 @@ module _ (xs : List ℕ) (rec : Reception) where
   abbrev pub badStore : Bool
   badStore = isBadStore xs (rec .count) (limitOf (rec .width))
 
-  abbrev pub badWait : Bool
-  badWait = rec .missing && not (isWaiting (rec .progress) (counted xs (rec .count)))
-
   pub ten-store : badStore ≡ true → isBadRecord xs rec ≡ true
   unfolding isBadRecord
   ten-store e = rw e
@@ -76,6 +77,6 @@ module _ (xs : List ℕ) (rec : Reception) where
   unfolding isBadRecord
   ten-progress e f = rw (e, lt-ltb _ _ f)
 
-  pub ten-wait : badStore ≡ false → rec .progress ≤ limitOf (rec .width) → isBadRecord xs rec ≡ badWait
+  pub ten-wait : badStore ≡ false → rec .progress ≤ limitOf (rec .width) → isBadRecord xs rec ≡ (isWrongWait xs rec || isWrongSize rec)
   unfolding isBadRecord
   ten-wait e f = rw (e, le-ltb _ _ f)

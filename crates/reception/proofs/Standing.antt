@@ -1,13 +1,13 @@
 -- What holds of every reception that comes from a fresh one with room for N: the record is sound, so every event passes checks 10, 8
 -- and 12; and an accepted event leaves it so.
 use mathlib.Core.Path.{_≡_, refl, sym, ap, _∙_}
-use mathlib.Core.Bool.{Bool, true, false, _&&_, not}
+use mathlib.Core.Bool.{Bool, true, false, _&&_, not, true≢false}
 use mathlib.Core.List.{List, [], _∷_}
 use Prim.Native.Nat.{ℕ, suc, _*_, _≤_, _<_, max}
 use native.Mathlib.Omega.{arith}
 use native.Mathlib.Decide.{decLt}
 use lib.ListN.{length, take}
-use borrow.Author.Tests.{le-ltb}
+use borrow.Author.Tests.{le-ltb, eq-eqb}
 use Rattle.ranges.specs.Range.{Range, Above, Coalesced, lastEnd}
 use Rattle.ranges.specs.Store.{counted, flat, limitOf, anyAbove, isBadStore, stored, mostPairs}
 use Rattle.ranges.specs.declared.Width.{Width}
@@ -15,7 +15,7 @@ use Rattle.ranges.proofs.Stored.{counted-stored, take-stored, length-stored}
 use Rattle.ranges.proofs.Good.{good-store}
 use Rattle.ranges.proofs.Without.{part-one, part-none}
 use Rattle.reception.specs.declared.Reception.{Reception}
-use Rattle.reception.specs.Record.{isBadRecord, isWaiting, waitingRanges, moved, Passed}
+use Rattle.reception.specs.Record.{isBadRecord, isWaiting, isWrongSize, waitingRanges, moved, ended, Passed}
 use Rattle.reception.specs.Data.{dataRanges}
 use Rattle.reception.specs.History.{State, rangesOf, fresh}
 use Rattle.ranges.proofs.Last.{ends-le, last-tail}
@@ -32,6 +32,7 @@ pub record Standing (s : State) (N : ℕ) : Type 0 where
   pub last : lastEnd (rangesOf s) ≤ s .rec .progress
   pub small : s .rec .progress ≤ limitOf (s .rec .width)
   pub waits : s .rec .missing ≡ true → rangesOf s ≡ waitingRanges (s .rec .progress)
+  pub told : s .rec .sized ≡ true → s .rec .progress ≡ s .rec .size
 
 -- the numbers of a coalesced list are at most its last end
 none-above : (d top : ℕ) (rs : List Range) → Above d rs → lastEnd rs ≤ top → anyAbove top (flat rs) ≡ false
@@ -63,8 +64,12 @@ standing-passed s N h = passed (s .list) (s .rec) bad (h .whole) (h .last)
     waiting true e = rw (e, ap (isWaiting (s .rec .progress)) (h .waits e) ∙ of-waiting (s .rec .progress))
     waiting false e = rw e
 
+    sized : (t : Bool) → s .rec .sized ≡ t → isWrongSize (s .rec) ≡ false
+    sized true e = rw (e, eq-eqb (s .rec .progress) (s .rec .size) (h .told e))
+    sized false e = rw e
+
     bad : isBadRecord (s .list) (s .rec) ≡ false
-    bad = ten-wait (s .list) (s .rec) store (h .small) ∙ waiting (s .rec .missing) refl
+    bad = ten-wait (s .list) (s .rec) store (h .small) ∙ rw (waiting (s .rec .missing) refl, sized (s .rec .sized) refl)
 
 -- the list of a waiting record is coalesced and ends at progress
 pub waiting-whole : (p : ℕ) → Coalesced (waitingRanges p)
@@ -92,9 +97,9 @@ after-last false p a e rs lt s l = kept-last p a e rs lt s l
 
 -- a list of ranges stored where another stood
 pub standing-stored : (s : State) (N : ℕ) → Standing s N → (rs : List Range) (p : ℕ) → length rs ≤ N → Coalesced rs → lastEnd rs ≤ p → p ≤ limitOf (s .rec .width)
-    → (s .rec .missing ≡ true → rs ≡ waitingRanges p)
+    → (s .rec .missing ≡ true → rs ≡ waitingRanges p) → (s .rec .sized ≡ true → p ≡ s .rec .size)
     → Standing (record { rec = moved (s .rec) p (length rs); list = stored rs (s .rec .count) (s .list) }) N
-standing-stored s N h rs p k c l b w =
+standing-stored s N h rs p k c l b w d =
     let z = h .size in
     let r = h .room in
     let e : counted (stored rs (s .rec .count) (s .list)) (length rs) ≡ rs = counted-stored rs (s .rec .count) (s .list) in
@@ -107,9 +112,30 @@ standing-stored s N h rs p k c l b w =
       last = rw e l;
       small = b;
       waits = λ q. e ∙ w q;
+      told = d;
+    }
+
+-- the same with the size told
+pub standing-ended : (s : State) (N : ℕ) → Standing s N → (rs : List Range) (z : ℕ) → length rs ≤ N → Coalesced rs → lastEnd rs ≤ z → z ≤ limitOf (s .rec .width)
+    → (s .rec .missing ≡ true → rs ≡ waitingRanges z)
+    → Standing (record { rec = ended (s .rec) z (length rs); list = stored rs (s .rec .count) (s .list) }) N
+standing-ended s N h rs z k c l b w =
+    let f = h .size in
+    let r = h .room in
+    let e : counted (stored rs (s .rec .count) (s .list)) (length rs) ≡ rs = counted-stored rs (s .rec .count) (s .list) in
+    record {
+      size = length-stored rs (s .rec .count) (s .list) (omega arith) (omega arith) ∙ f;
+      few = h .few;
+      room = k;
+      held = take-stored rs (s .rec .count) (s .list) ∙ ap flat (sym e);
+      whole = rw e c;
+      last = rw e l;
+      small = b;
+      waits = λ q. e ∙ w q;
+      told = λ q. refl;
     }
 
 -- a fresh reception
 pub standing-fresh : (w : Width) (xs : List ℕ) (N : ℕ) → length xs ≡ 2 * N → N ≤ mostPairs → Standing (fresh w xs) N
 standing-fresh w xs N z f =
-    record { size = z; few = f; room = omega arith; held = refl; whole = tt; last = omega arith; small = omega arith; waits = λ q. refl }
+    record { size = z; few = f; room = omega arith; held = refl; whole = tt; last = omega arith; small = omega arith; waits = λ q. refl; told = λ q. absurd (true≢false (sym q)) }

@@ -1,6 +1,6 @@
 -- The data event (offset, length) (document 01, "Reception events"; its gap is inserted: document 02, C-19).
 use Prim.Native.Nat.{ℕ, _+_, max}
-use mathlib.Core.Bool.{Bool, true, false, cond}
+use mathlib.Core.Bool.{Bool, true, false, _&&_, cond}
 use mathlib.Core.List.{List, [], _∷_, _++_}
 use lib.ListN.{length}
 use lib.Dec.{ltb, eqb}
@@ -49,15 +49,20 @@ isTooLong offset size = ltb largestNumber (offset + size)
 abbrev pub isFull : ℕ → List Range → Bool
 isFull room rs = ltb room (length rs)
 
--- Checks of the segment itself: 2 (length 0), 9, 4 (end above the narrow limit).
+-- 22: the size is known and the end is past it (document 02, C-14).
+abbrev pub isPastSize : Reception → ℕ → Bool
+isPastSize rec end = rec .sized && ltb (rec .size) end
+
+-- Checks of the segment itself: 2 (length 0), 9, 4 (end above the narrow limit), 22.
 abbrev pub segmentChecks : Reception → ℕ → ℕ → List Check
 segmentChecks rec offset size =
     (eqb size 0, refusal.EmptySegment)
     ∷ (isTooLong offset size, refusal.RangeTooLong)
     ∷ (ltb (limitOf (rec .width)) (offset + size), refusal.LargeFileSegmentNotSupported)
+    ∷ (isPastSize rec (offset + size), refusal.FileSizeError)
     ∷ []
 
--- Checks: 10, 8, 12, 2, 9, 4.
+-- Checks: 10, 8, 12, 2, 9, 4, 22.
 abbrev pub dataChecks : Reception → List ℕ → ℕ → ℕ → List Check
 dataChecks rec xs offset size = recordChecks rec xs ++ segmentChecks rec offset size
 

@@ -15,7 +15,7 @@ use Rattle.outcomes.specs.declared.Refusal.the-variants as refusal
 use Rattle.outcomes.proofs.FirstOf.{first-accepted}
 use Rattle.reception.specs.Record.{recordChecks, Passed}
 use Rattle.reception.specs.declared.Reception.{Reception}
-use Rattle.reception.specs.Data.{dataLeaves, isTooLong, isFull, segmentChecks, dataChecks, roomOutcome, dataOutcome}
+use Rattle.reception.specs.Data.{dataLeaves, isTooLong, isPastSize, isFull, segmentChecks, dataChecks, roomOutcome, dataOutcome}
 use Rattle.reception.proofs.Sound.{none-split}
 
 -- no check of the data event is met
@@ -24,11 +24,12 @@ pub record Checked (rec : Reception) (xs : List ℕ) (offset size : ℕ) : Type 
   pub some : size ≡ 0 → ⊥
   pub short : isTooLong offset size ≡ false
   pub small : offset + size ≤ limitOf (rec .width)
+  pub within : isPastSize rec (offset + size) ≡ false
 
 pub checked : (rec : Reception) (xs : List ℕ) (offset size : ℕ) → NoneOf (dataChecks rec xs offset size) → Checked rec xs offset size
 checked rec xs offset size n =
     let w = none-split (recordChecks rec xs) (segmentChecks rec offset size) n in
-    record { passed = w .0; some = eqb-false _ _ (w .1 .0); short = w .1 .1 .0; small = ltb-false _ _ (w .1 .1 .1 .0) }
+    record { passed = w .0; some = eqb-false _ _ (w .1 .0); short = w .1 .1 .0; small = ltb-false _ _ (w .1 .1 .1 .0); within = w .1 .1 .1 .1 .0 }
 
 -- and there is room
 pub record Taken (rec : Reception) (xs : List ℕ) (offset size : ℕ) : Type 0 where
@@ -41,7 +42,7 @@ has-room true m e = absurd (true≢false (sym e))
 has-room false m e = refl
 
 -- a list that check 1 passes has room
-not-full : (room : ℕ) (rs : List Range) → isFull room rs ≡ false → length rs ≤ room
+pub not-full : (room : ℕ) (rs : List Range) → isFull room rs ≡ false → length rs ≤ room
 not-full room rs h = go (ltb room (length rs)) refl
   where
     go : (t : Bool) → ltb room (length rs) ≡ t → length rs ≤ room

@@ -11,7 +11,7 @@ use Rattle.outcomes.specs.Refusal.{refusing}
 use Rattle.outcomes.specs.declared.Refusal.the-variants as refusal
 use Rattle.reception.specs.Record.{Passed}
 use Rattle.reception.specs.declared.Reception.{Reception}
-use Rattle.reception.specs.Data.{dataLeaves, isTooLong, isFull, segmentChecks, roomOutcome, dataOutcome}
+use Rattle.reception.specs.Data.{dataLeaves, isTooLong, isPastSize, isFull, segmentChecks, roomOutcome, dataOutcome}
 use Rattle.reception.proofs.Sound.{behind-record}
 
 module _ (rec : Reception) (xs : List ℕ) (offset size : ℕ) where
@@ -31,9 +31,13 @@ module _ (rec : Reception) (xs : List ℕ) (offset size : ℕ) where
         data-large h = from (refusing refusal.LargeFileSegmentNotSupported) (rw (ne-eqb size 0 n, s, lt-ltb _ _ h))
 
         module _ (t : offset + size ≤ limitOf (rec .width)) where
-          pub data-full : isFull (capacity xs) (dataLeaves rec xs offset size) ≡ true → (refusing refusal.StoreFull) ≡ dataOutcome rec xs offset size
-          data-full h = from (refusing refusal.StoreFull) (rw (ne-eqb size 0 n, s, le-ltb _ _ t, h))
+          pub data-past : isPastSize rec (offset + size) ≡ true → (refusing refusal.FileSizeError) ≡ dataOutcome rec xs offset size
+          data-past h = from (refusing refusal.FileSizeError) (rw (ne-eqb size 0 n, s, le-ltb _ _ t, h))
 
-          pub data-taken : isFull (capacity xs) (dataLeaves rec xs offset size) ≡ false
-              → cond (rec .missing) (accepted (0 ∷ [])) (accepted (1 ∷ [])) ≡ dataOutcome rec xs offset size
-          data-taken h = from (cond (rec .missing) (accepted (0 ∷ [])) (accepted (1 ∷ []))) (rw (ne-eqb size 0 n, s, le-ltb _ _ t, h))
+          module _ (w : isPastSize rec (offset + size) ≡ false) where
+            pub data-full : isFull (capacity xs) (dataLeaves rec xs offset size) ≡ true → (refusing refusal.StoreFull) ≡ dataOutcome rec xs offset size
+            data-full h = from (refusing refusal.StoreFull) (rw (ne-eqb size 0 n, s, le-ltb _ _ t, w, h))
+
+            pub data-taken : isFull (capacity xs) (dataLeaves rec xs offset size) ≡ false
+                → cond (rec .missing) (accepted (0 ∷ [])) (accepted (1 ∷ [])) ≡ dataOutcome rec xs offset size
+            data-taken h = from (cond (rec .missing) (accepted (0 ∷ [])) (accepted (1 ∷ []))) (rw (ne-eqb size 0 n, s, le-ltb _ _ t, w, h))

@@ -1,0 +1,3 @@
+pub mod Accepted
+pub mod Tail
+pub mod Answers
