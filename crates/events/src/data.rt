@@ -5,6 +5,7 @@ ghost use Rattle.outcomes.specs.Outcome.{accepted};
 ghost use Rattle.outcomes.specs.Checks.{verdictCase, firstOf};
 ghost use Rattle.reception.specs.Data.{dataChecks, dataCase, dataOutcome, dataRecord, dataList};
 use crate::inner::change;
+use crate::inner::past_size;
 use crate::inner::record_checks;
 use inserting::inner::larger;
 use outcomes::Refusal;
@@ -34,6 +35,9 @@ pub fn data_checks(rec: Reception, list: &[u64], offset: u64, length: u64) -> Ve
     let width = rec.width;
     if width.limit() < offset + length {
         return Verdict::Refused(Refusal::LargeFileSegmentNotSupported);
+    }
+    if past_size(rec, offset + length) {
+        return Verdict::Refused(Refusal::FileSizeError);
     }
     Verdict::Passed
 }

@@ -1,7 +1,7 @@
 // Inner: the checks of a record, and the list that an accepted data event leaves. Each function asks for what its callers have
 // checked, so none is a public call.
 ghost use mathlib.Core.Path.{_≡_};
-ghost use mathlib.Core.Bool.{true, false, _&&_, not};
+ghost use mathlib.Core.Bool.{true, false, _&&_, _||_, not};
 ghost use Prim.Native.Nat.{_+_, _*_, _<_, _≤_, max};
 ghost use lib.ListN.{length};
 ghost use Rattle.ranges.specs.Range.{Coalesced, lastEnd};
@@ -10,8 +10,9 @@ ghost use Rattle.ranges.specs.Inner.Cut.{cutAnswer, cutList};
 ghost use mathlib.Core.List.{[]};
 ghost use Rattle.outcomes.specs.Outcome.{accepted};
 ghost use Rattle.outcomes.specs.Checks.{verdictCase, firstOf};
-ghost use Rattle.reception.specs.Record.{isWaiting, waitingRanges, recordChecks};
-ghost use Rattle.reception.specs.Data.{keptRanges, dataRanges};
+ghost use Rattle.reception.specs.Record.{isWaiting, isWrongWait, isWrongSize, waitingRanges, recordChecks};
+ghost use Rattle.reception.specs.Data.{isPastSize, keptRanges, dataRanges};
+ghost use Rattle.reception.specs.Eof.{isOtherSize, eofRanges};
 use inserting::inner::insert;
 use inserting::inner::larger;
 use outcomes::Refusal;
@@ -54,6 +55,50 @@ fn wrong_wait(list: &[u64], count: usize, progress: u64, missing: bool) -> bool
     false
 }
 
+// Whether the size is known and progress is another number.
+fn wrong_size(rec: Reception) -> bool
+    ensures { λ r. ⌜ r ≡ isWrongSize rec ⌝ }
+{
+    if rec.sized {
+        return rec.progress != rec.size;
+    }
+    false
+}
+
+// What is left of 10 where the store is good and progress within the width.
+fn wrong_rest(rec: Reception, list: &[u64]) -> bool
+    requires { ⌜ 2 * (rec .count) ≤ length (now list) ⌝ }
+    ensures { λ r. ⌜ r ≡ (isWrongWait (now (list .entry)) rec || isWrongSize rec) ⌝ }
+{
+    if wrong_wait(list, rec.count, rec.progress, rec.missing) {
+        return true;
+    }
+    wrong_size(rec)
+}
+
+// 22 of a data event: whether the size is known and the end past it.
+pub fn past_size(rec: Reception, end: u64) -> bool
+    ensures { λ r. ⌜ r ≡ isPastSize rec end ⌝ }
+{
+    if rec.sized {
+        return rec.size < end;
+    }
+    false
+}
+
+// 22 of an EOF: whether z is below progress, or the size known and z another.
+pub fn other_size(rec: Reception, z: u64) -> bool
+    ensures { λ r. ⌜ r ≡ isOtherSize rec z ⌝ }
+{
+    if z < rec.progress {
+        return true;
+    }
+    if rec.sized {
+        return z != rec.size;
+    }
+    false
+}
+
 // The checks that every event begins with: 10, 8, 12.
 pub fn record_checks(rec: Reception, list: &[u64]) -> Verdict
     ensures { λ r. ⌜ verdictCase r ≡ firstOf (recordChecks rec (now (list .entry))) (accepted []) ⌝ }
@@ -67,7 +112,7 @@ pub fn record_checks(rec: Reception, list: &[u64]) -> Verdict
     if top < rec.progress {
         return Verdict::Refused(Refusal::BadStore);
     }
-    if wrong_wait(list, rec.count, rec.progress, rec.missing) {
+    if wrong_rest(rec, list) {
         return Verdict::Refused(Refusal::BadStore);
     }
     if !found.coalesced {
@@ -128,4 +173,23 @@ pub fn change(list: &mut [u64], count: usize, p: u64, missing: bool, a: u64, e: 
         return notice(list, count, larger(p, e));
     }
     keep(list, count, p, a, e)
+}
+
+// The list that an accepted EOF leaves: while waiting (0, z), empty at z = 0; else what lies between progress p and z becomes missing.
+pub fn finish(list: &mut [u64], count: usize, p: u64, missing: bool, z: u64) -> Remains
+    requires { ⌜ (2 * count ≤ length (now list)) × ((length (now list) ≤ mostNumbers) × (p ≤ z)) ⌝ }
+    requires { ⌜ Coalesced (counted (now list) count) ⌝ }
+    requires { ⌜ (missing ≡ true → isWaiting p (counted (now list) count) ≡ true) ⌝ }
+    ensures { λ r. ⌜ r ≡ cutAnswer (capacity (now (list .entry))) (eofRanges missing p z (counted (now (list .entry)) count)) ⌝ }
+    ensures { λ _. ⌜ now (list .exit) ≡ cutList (capacity (now (list .entry))) (eofRanges missing p z (counted (now (list .entry)) count)) count (now (list .entry)) ⌝ }
+{
+    // The size is where progress stands: nothing becomes missing.
+    if p == z {
+        return Remains::Left(count);
+    }
+    if missing {
+        return notice(list, count, z);
+    }
+    let room = list.len() / 2;
+    insert(list, count, p, z, room)
 }

@@ -96,12 +96,32 @@ returns-4 c =
     let large : limitOf (rec b .width) < off b + len b = omega (arith, limit (c .before), c .if3 .taken) in
     rw (← behind (e .before .before)) (rw (ne-eqb _ 0 (e .before .if1 .left), le-ltb _ _ (short e), lt-ltb _ _ large))
 
+-- 4 is passed
+abbrev from3 : tie.Else3 → tie.After-record-checks
+from3 c = from2 (c .before .before)
+
+small : (c : tie.Else3) → off (from3 c) + len (from3 c) ≤ limitOf (rec (from3 c) .width)
+small c = omega (arith, limit (c .before), c .if3 .left)
+
+add-past-size : tie.Need-add-past-size
+add-past-size c = omega (arith, short (c .before .before))
+
+past-size-requires : tie.Need-past-size-requires
+past-size-requires c κs = search needs
+
 returns-5 : tie.Need-returns-5
 returns-5 c =
-    let e = c .before .before in
-    let b = from2 e in
-    let small : off b + len b ≤ limitOf (rec b .width) = omega (arith, limit (c .before), c .if3 .left) in
-    rw (← behind (e .before .before)) (rw (ne-eqb _ 0 (e .before .if1 .left), le-ltb _ _ (short e), le-ltb _ _ small))
+    let d = c .before .before in
+    let e = d .before .before in
+    rw (← behind (e .before .before))
+    (rw (ne-eqb _ 0 (e .before .if1 .left), le-ltb _ _ (short e), le-ltb _ _ (small d), sym (c .before .past-size .ensures) ∙ c .if4 .taken))
+
+returns-6 : tie.Need-returns-6
+returns-6 c =
+    let d = c .before .before in
+    let e = d .before .before in
+    rw (← behind (e .before .before))
+    (rw (ne-eqb _ 0 (e .before .if1 .left), le-ltb _ _ (short e), le-ltb _ _ (small d), sym (c .before .past-size .ensures) ∙ c .if4 .left))
 
 pub data-checks-spec : {M : Type 1} → statement M
 data-checks-spec =
@@ -117,4 +137,7 @@ data-checks-spec =
     limit-requires
     add-if3
     returns-4
-    returns-5)
+    add-past-size
+    past-size-requires
+    returns-5
+    returns-6)

@@ -1,7 +1,7 @@
 -- `record_checks` meets its contract: the tests of 10, 8 and 12 in order.
 use native.Mathlib.Omega.{arith}
 use mathlib.Core.Path.{_≡_, sym, _∙_}
-use mathlib.Core.Bool.{true, false, _&&_, not}
+use mathlib.Core.Bool.{true, false, _||_}
 use mathlib.Core.List.{List}
 use Prim.Native.Nat.{ℕ, _≤_, _<_}
 use borrow.Author.Tests.{not-true, not-false, lt-ltb, le-ltb}
@@ -10,7 +10,7 @@ use Rattle.ranges.specs.Range.{isCoalesced, lastEnd}
 use Rattle.ranges.specs.Store.{counted, limitOf, isBadStore}
 use Rattle.ranges.proofs.Good.{Good, good}
 use Rattle.reception.specs.declared.Reception.{Reception}
-use Rattle.reception.specs.Record.{isWaiting, isBadRecord}
+use Rattle.reception.specs.Record.{isWrongWait, isWrongSize, isBadRecord}
 use Rattle.reception.proofs.Sound.{ten-store, ten-progress, ten-wait}
 use Rattle.events.proofs.inner.record_checks.Statement.{statement}
 use Rattle.events.proofs.inner.record_checks.Tie as tie
@@ -45,15 +45,15 @@ from2 c = c .before .before
 small : (c : tie.Else2) → rec (from2 c .before) .progress ≤ limitOf (rec (from2 c .before) .width)
 small c = rw (top (from2 c .before)) at (c .if2 .left)
 
-wait : (c : tie.After-wrong-wait) → let b = from2 (c .before) .before in c .wrong-wait .result ≡ (rec b .missing && not (isWaiting (rec b .progress) (counted (xs b) (rec b .count))))
-wait c = c .wrong-wait .ensures
+rest : (c : tie.After-wrong-rest) → let b = from2 (c .before) .before in c .wrong-rest .result ≡ (isWrongWait (xs b) (rec b) || isWrongSize (rec b))
+rest c = c .wrong-rest .ensures
 
 -- check 10 is passed
 abbrev from3 : tie.Else3 → tie.Else1
 from3 c = from2 (c .before .before)
 
 ten : (c : tie.Else3) → isBadRecord (xs (from3 c .before)) (rec (from3 c .before)) ≡ false
-ten c = let e = from3 c in ten-wait (xs (e .before)) (rec (e .before)) (store e) (small (c .before .before)) ∙ (sym (wait (c .before)) ∙ c .if3 .left)
+ten c = let e = from3 c in ten-wait (xs (e .before)) (rec (e .before)) (store e) (small (c .before .before)) ∙ (sym (rest (c .before)) ∙ c .if3 .left)
 
 -- check 8 is passed
 abbrev from4 : tie.Else4 → tie.Else1
@@ -80,14 +80,14 @@ returns-2 c =
     let b = e .before in
     rw (ten-progress (xs b) (rec b) (store e) (rw (top b) at (c .if2 .taken)))
 
-wrong-wait-requires : tie.Need-wrong-wait-requires
-wrong-wait-requires c κs = room (from2 c) .room
+wrong-rest-requires : tie.Need-wrong-rest-requires
+wrong-rest-requires c κs = room (from2 c) .room
 
 returns-3 : tie.Need-returns-3
 returns-3 c =
     let e = from2 (c .before .before) in
     let b = e .before in
-    rw (ten-wait (xs b) (rec b) (store e) (small (c .before .before)) ∙ (sym (wait (c .before)) ∙ c .if3 .taken))
+    rw (ten-wait (xs b) (rec b) (store e) (small (c .before .before)) ∙ (sym (rest (c .before)) ∙ c .if3 .taken))
 
 returns-4 : tie.Need-returns-4
 returns-4 c =
@@ -117,7 +117,7 @@ record-checks-spec =
     check-requires
     returns
     returns-2
-    wrong-wait-requires
+    wrong-rest-requires
     returns-3
     returns-4
     last-end-requires
