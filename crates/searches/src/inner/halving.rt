@@ -8,7 +8,7 @@ ghost use Rattle.ranges.specs.Inner.Cut.{first, behind};
 use lists::inner::pairs::end_at;
 use lists::inner::pairs::start_at;
 
-// The place of the first range that ends above a, or their number. The ends of a coalesced list ascend, so it is found by halving.
+// The place of the first range that ends above a, or their number.
 pub fn first_past(list: &[u64], n: usize, a: u64) -> usize
     requires { ⌜ 2 * n ≤ length (now list) ⌝ }
     requires { ⌜ Coalesced (counted (now list) n) ⌝ }
@@ -28,7 +28,7 @@ pub fn first_past(list: &[u64], n: usize, a: u64) -> usize
     low
 }
 
-// The place, from i on, of the first range that starts above e, or their number; by halving too.
+// The place, from i on, of the first range that starts above e, or their number.
 pub fn first_above(list: &[u64], n: usize, i: usize, e: u64) -> usize
     requires { ⌜ (i ≤ n) × (2 * n ≤ length (now list)) ⌝ }
     requires { ⌜ Coalesced (counted (now list) n) ⌝ }
