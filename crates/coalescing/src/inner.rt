@@ -8,12 +8,12 @@ ghost use Rattle.ranges.specs.Store.{counted, stored};
 ghost use Rattle.pair_sort.specs.Sorted.{Ascending};
 ghost use Rattle.segment_store.specs.Coalesce.{maximalRuns};
 ghost use Rattle.coalescing.specs.Inner.{Low};
+use lists::inner::moves::tidy;
+use lists::inner::pairs::end_at;
+use lists::inner::pairs::put_end;
+use lists::inner::pairs::put_pair;
+use lists::inner::pairs::start_at;
 use pair_sort::inner::sort_pairs;
-use ranges::inner::moves::tidy;
-use ranges::inner::pairs::end_at;
-use ranges::inner::pairs::put_end;
-use ranges::inner::pairs::put_pair;
-use ranges::inner::pairs::start_at;
 
 // (s, e) joins the last of the first m ranges, or goes behind it.
 fn put_last(list: &mut [u64], m: usize, s: u64, e: u64) -> usize

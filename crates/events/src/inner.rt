@@ -13,18 +13,18 @@ ghost use Rattle.outcomes.specs.Checks.{verdictCase, firstOf};
 ghost use Rattle.reception.specs.Record.{isWaiting, isWrongWait, isWrongSize, waitingRanges, recordChecks};
 ghost use Rattle.reception.specs.Data.{isPastSize, keptRanges, dataRanges};
 ghost use Rattle.reception.specs.Eof.{isOtherSize, eofRanges};
+use cutting::inner::cut;
 use inserting::inner::insert;
 use inserting::inner::larger;
+use lists::inner::pairs::put_pair;
 use outcomes::Refusal;
 use outcomes::Verdict;
-use ranges::inner::checks::check;
-use ranges::inner::checks::last_end;
 use ranges::inner::cut::Remains;
-use ranges::inner::cut::cut;
-use ranges::inner::cut::first_above;
-use ranges::inner::cut::first_past;
-use ranges::inner::pairs::put_pair;
 use reception::Reception;
+use searches::inner::checks::check;
+use searches::inner::checks::last_end;
+use searches::inner::halving::first_above;
+use searches::inner::halving::first_past;
 
 // Whether the counted pairs are the list of a waiting record.
 fn is_waiting(list: &[u64], count: usize, progress: u64) -> bool

@@ -7,12 +7,12 @@ ghost use Rattle.ranges.specs.Store.{counted, mostNumbers};
 ghost use Rattle.ranges.specs.Inner.Cut.{cutAnswer, cutList};
 ghost use Rattle.ranges.specs.Insert.{insert};
 ghost use Rattle.inserting.specs.Inner.{reaching};
+use lists::inner::moves::replace;
+use lists::inner::pairs::end_at;
+use lists::inner::pairs::start_at;
 use ranges::inner::cut::Remains;
-use ranges::inner::cut::first_above;
-use ranges::inner::cut::first_past;
-use ranges::inner::moves::replace;
-use ranges::inner::pairs::end_at;
-use ranges::inner::pairs::start_at;
+use searches::inner::halving::first_above;
+use searches::inner::halving::first_past;
 
 fn smaller(a: u64, b: u64) -> u64
     ensures { λ r. ⌜ r ≡ min a b ⌝ }

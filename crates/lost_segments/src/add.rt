@@ -4,9 +4,9 @@ ghost use mathlib.Core.List.{[]};
 ghost use Rattle.outcomes.specs.Outcome.{accepted};
 ghost use Rattle.outcomes.specs.Checks.{firstOf, verdictCase};
 ghost use Rattle.segment_store.specs.Add.{addCase, addChecks, addOutcome, addList};
+use lists::inner::pairs::put_pair;
 use outcomes::Refusal;
 use outcomes::Verdict;
-use ranges::inner::pairs::put_pair;
 use segment_store::Store;
 use segment_store::add::AddAnswer;
 
@@ -17,7 +17,7 @@ fn add_checks(st: Store, list: &[u64], start: u64, end: u64) -> Verdict
     let count = st.count;
     let width = st.width;
     let top = width.limit();
-    if ranges::bad_store(list, count, top) {
+    if searches::bad_store(list, count, top) {
         return Verdict::Refused(Refusal::BadStore);
     }
     if start == end {

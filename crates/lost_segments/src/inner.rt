@@ -13,7 +13,7 @@ pub fn store_checks(st: Store, list: &[u64]) -> Verdict
     ensures { λ r. ⌜ verdictCase r ≡ firstOf (storeChecks (now (list .entry)) st) (accepted []) ⌝ }
 {
     let width = st.width;
-    if ranges::bad_store(list, st.count, width.limit()) {
+    if searches::bad_store(list, st.count, width.limit()) {
         return Verdict::Refused(Refusal::BadStore);
     }
     Verdict::Passed

@@ -6,8 +6,8 @@ ghost use Rattle.outcomes.specs.Checks.{firstOf, verdictCase};
 ghost use Rattle.segment_store.specs.Insert.{insertCase, insertChecks, insertOutcome, insertList};
 use outcomes::Refusal;
 use outcomes::Verdict;
-use ranges::inner::checks::check;
 use ranges::inner::cut::Remains;
+use searches::inner::checks::check;
 use segment_store::Store;
 use segment_store::insert::InsertAnswer;
 

@@ -4,7 +4,7 @@ ghost use Rattle.segment_store.specs.SegmentInStore.{inStoreCase, inStoreOutcom
 use crate::inner::store_checks;
 use outcomes::Refusal;
 use outcomes::Verdict;
-use ranges::inner::checks::any_holds;
+use searches::inner::checks::any_holds;
 use segment_store::Store;
 use segment_store::segment_in_store::InStoreAnswer;
 

@@ -12,7 +12,7 @@ use octets::LargeFileFlag;
 use octets::inner::put_all;
 use outcomes::Refusal;
 use outcomes::Verdict;
-use ranges::inner::checks::any_above;
+use searches::inner::checks::any_above;
 use segment_store::Store;
 use segment_store::write_segments_to_bytes::WriteAnswer;
 
@@ -34,7 +34,7 @@ fn write_checks(st: Store, list: &[u64], flag: LargeFileFlag, given: usize) -> V
     let count = st.count;
     let width = st.width;
     let top = width.limit();
-    if ranges::bad_store(list, count, top) {
+    if searches::bad_store(list, count, top) {
         return Verdict::Refused(Refusal::BadStore);
     }
     let f = flag.field_length();

@@ -3,8 +3,8 @@ ghost use Prim.Native.Nat.{_≤_};
 ghost use lib.ListN.{length};
 use console_text::inner::part;
 use console_text::inner::print;
+use lists::inner::moves::tidy;
 use ranges::Width;
-use ranges::inner::moves::tidy;
 use reception::Reception;
 
 pub struct State {

@@ -1,7 +1,7 @@
 // The checks of a list of requests, and of its numbers.
 use outcomes::Refusal;
 use outcomes::Verdict;
-use ranges::inner::checks::any_above;
+use searches::inner::checks::any_above;
 ghost use mathlib.Core.Path.{_≡_};
 ghost use mathlib.Core.Bool.{_&&_, not};
 ghost use mathlib.Core.List.{[], _∷_};

@@ -7,7 +7,7 @@ use Rattle.inserting.proofs.Placed.{reaching-zero, reaching-next}
 use borrow.Author.Needs.{needs}
 use Rattle.inserting.proofs.inner.first_reaching.Statement.{statement}
 use Rattle.inserting.proofs.inner.first_reaching.Tie as tie
-use Rattle.ranges.proofs.inner.cut.first_past.Reads as first-past-reads
+use Rattle.searches.proofs.inner.halving.first_past.Reads as first-past-reads
 
 returns : tie.Need-returns
 returns c =

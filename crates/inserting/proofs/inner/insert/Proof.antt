@@ -10,10 +10,10 @@ use Rattle.inserting.proofs.inner.insert.Tie as tie
 use Rattle.inserting.proofs.inner.first_reaching.Reads as first-reaching-reads
 use Rattle.inserting.proofs.inner.larger.Reads as larger-reads
 use Rattle.inserting.proofs.inner.smaller.Reads as smaller-reads
-use Rattle.ranges.proofs.inner.cut.first_above.Reads as first-above-reads
-use Rattle.ranges.proofs.inner.moves.replace.Reads as replace-reads
-use Rattle.ranges.proofs.inner.pairs.end_at.Reads as end-at-reads
-use Rattle.ranges.proofs.inner.pairs.start_at.Reads as start-at-reads
+use Rattle.searches.proofs.inner.halving.first_above.Reads as first-above-reads
+use Rattle.lists.proofs.inner.moves.replace.Reads as replace-reads
+use Rattle.lists.proofs.inner.pairs.end_at.Reads as end-at-reads
+use Rattle.lists.proofs.inner.pairs.start_at.Reads as start-at-reads
 
 -- what the call begins with, and the places found
 abbrev start : tie.After-first-above → tie.Start

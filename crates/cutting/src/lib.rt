@@ -1,0 +1,2 @@
+// Offsets that leave a coalesced list where it lies.
+pub mod inner;
