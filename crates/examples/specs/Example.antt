@@ -15,8 +15,8 @@ use Rattle.lost_segments.specs.Coalesce.{coalesceOutcome, coalesceList}
 use Rattle.reception.specs.History.{Event, State, fresh, outcome, step, run}
 use Rattle.nak.specs.declared.Identity.{Identity}
 use Rattle.nak.specs.Pdu.{Nak}
-use Rattle.nak_sequence.specs.Entries.{Asking, asking, naks}
-use Rattle.nak_sequence.specs.Sequence.{order, pduCount}
+use Rattle.sequence.specs.Entries.{Asking, asking, naks}
+use Rattle.sequence.specs.Sequence.{order, pduCount}
 
 pub data Example : Type 0 where
   -- A call on a store of this width and capacity that holds these ranges.

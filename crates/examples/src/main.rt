@@ -7,11 +7,11 @@ use libc::STDOUT_FILENO;
 use nak::Identity;
 use nak::writer::WriteAnswer;
 use nak_parser::Step;
-use nak_sequence::SequenceAnswer;
 use octets::LargeFileFlag;
 use outcomes::Refusal;
 use ranges::Width;
 use reception::Reception;
+use sequence::SequenceAnswer;
 
 fn space() {
     write_all(STDOUT_FILENO, b" ");

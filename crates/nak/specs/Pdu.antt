@@ -1,7 +1,9 @@
 -- The NAK PDU as a list of octets (document 01, "The NAK PDU"; Blue Book, PDU header and 5.2.6).
-use Prim.Native.Nat.{ℕ, _+_, _*_}
+use Prim.Native.Nat.{ℕ, _+_, _*_, _-_, _/_}
+use mathlib.Core.Bool.{Bool}
 use mathlib.Core.List.{List, _∷_, _++_}
 use lib.ListN.{length}
+use lib.Dec.{ltb}
 use Rattle.ranges.specs.Range.{Range, range}
 use Rattle.ranges.specs.Store.{flat}
 use Rattle.octets.specs.Octets.{field, fields}
@@ -56,6 +58,14 @@ dataLength f numbers = 1 + f * (2 + numbers)
 -- And the PDU: the header, then the data field. By `pdu-length` that is the number of its octets.
 abbrev pub pduLength : LargeFileFlag → Identity → ℕ → ℕ
 pduLength g d numbers = headerLength (d .«entity_length») (d .«number_length») + dataLength (fieldLength g) numbers
+
+-- Requests per PDU: k = (P − H − 1 − 2F) / 2F rounded down, P the largest PDU.
+abbrev pub perPdu : LargeFileFlag → Identity → ℕ → ℕ
+perPdu g d largest = (largest - headerLength (d .«entity_length») (d .«number_length») - 1 - 2 * fieldLength g) / (2 * fieldLength g)
+
+-- P below room for one request, which has two numbers.
+abbrev pub isTooSmall : LargeFileFlag → Identity → ℕ → Bool
+isTooSmall g d largest = ltb largest (pduLength g d 2)
 
 -- The PDU: header, identity, data field. Behind that would stand a trailer; there is none.
 unfoldable pub pdu : Nak → List ℕ

@@ -15,7 +15,7 @@ use Rattle.octets.specs.declared.LargeFileFlag.{LargeFileFlag}
 use Rattle.nak.specs.declared.Identity.{Identity}
 use Rattle.nak.specs.Pdu.{Nak, saying}
 use Rattle.nak.specs.Inner as writer
-use Rattle.nak_sequence.specs.Entries.{askingFor, entriesOf, entriesIn, endOf, scopeStart, lastEndOf, nakAt}
+use Rattle.sequence.specs.Entries.{askingFor, entriesOf, entriesIn, endOf, scopeStart, lastEndOf, nakAt}
 use Rattle.nak_sequence.specs.Inner.{entryCount}
 
 pub length-entries : (rec : Reception) (xs : List ℕ) → 2 * rec .count ≤ length xs → length (entriesIn rec xs) ≡ entryCount rec

@@ -6,13 +6,14 @@ ghost use lib.Dec.{ltb};
 ghost use lib.ListN.{length};
 ghost use Rattle.octets.specs.Octets.{withOctets};
 ghost use Rattle.nak.specs.Inner.{GoodLengths};
-ghost use Rattle.nak.specs.Pdu.{pdu, headerLength};
+ghost use Rattle.nak.specs.Pdu.{pdu, isTooSmall};
 ghost use Rattle.ranges.specs.Store.{mostPairs};
 ghost use Rattle.nak.specs.Writer.{largestPdu};
-ghost use Rattle.nak_sequence.specs.Entries.{askingFor, entriesIn, perPdu, endOf, scopeStart, roundedUp, nakAt, naks, octetsOf, lastEndOf};
+ghost use Rattle.sequence.specs.Entries.{askingFor, entriesIn, endOf, scopeStart, roundedUp, nakAt, naks, octetsOf, lastEndOf};
 ghost use Rattle.nak_sequence.specs.Inner.{entryCount, Listed};
 use nak::Identity;
 use nak::LARGEST_PDU;
+use nak::inner::lengths::too_small;
 use nak::inner::write_at;
 use octets::LargeFileFlag;
 use reception::Reception;
@@ -24,31 +25,15 @@ pub fn smaller(a: usize, b: usize) -> usize
     if a < b { a } else { b }
 }
 
-// H: the length of the fixed header, with identifiers.
-pub fn header_length(identity: Identity) -> usize
-    requires { ⌜ GoodLengths identity ⌝ }
-    ensures { λ r. ⌜ r ≡ headerLength (identity .«entity_length») (identity .«number_length») ⌝ }
-{
-    4 + 2 * identity.entity_length + identity.number_length
-}
-
 // Whether the largest PDU is too large, or has no room for one request.
-pub fn bad_size(largest: usize, h: usize, f: usize) -> bool
-    requires { ⌜ (h ≤ 28) × (f ≤ 8) ⌝ }
-    ensures { λ r. ⌜ r ≡ (ltb largestPdu largest || ltb largest (h + 1 + 4 * f)) ⌝ }
+pub fn bad_size(identity: Identity, flag: LargeFileFlag, largest: usize) -> bool
+    requires { ⌜ GoodLengths identity ⌝ }
+    ensures { λ r. ⌜ r ≡ (ltb largestPdu largest || isTooSmall flag identity largest) ⌝ }
 {
     if LARGEST_PDU < largest {
         return true;
     }
-    largest < h + 1 + 4 * f
-}
-
-// k: how many requests a PDU holds.
-pub fn per_pdu(largest: usize, h: usize, f: usize) -> usize
-    requires { ⌜ (h + 1 + 4 * f ≤ largest) × ((4 ≤ f) × (f ≤ 8)) ⌝ }
-    ensures { λ r. ⌜ r ≡ perPdu largest h f ⌝ }
-{
-    (largest - h - 1 - 2 * f) / (2 * f)
+    too_small(identity, flag, largest)
 }
 
 // E: how many entries there are.

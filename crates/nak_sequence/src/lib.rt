@@ -4,25 +4,21 @@ ghost use mathlib.Core.List.{[]};
 ghost use lib.ListN.{length};
 ghost use Rattle.outcomes.specs.Outcome.{accepted};
 ghost use Rattle.outcomes.specs.Checks.{verdictCase, firstOf};
-ghost use Rattle.nak_sequence.specs.Sequence.{sequenceChecks, sequenceCase, sequenceOutcome, sequenceBuffer, order};
+ghost use Rattle.sequence.specs.Sequence.{sequenceChecks, sequenceCase, sequenceOutcome, sequenceBuffer, order};
 use events::inner::record_checks;
 use nak::Identity;
 use nak::inner::bad_identity;
+use nak::inner::lengths::per_pdu;
 use octets::LargeFileFlag;
 use outcomes::Refusal;
 use outcomes::Verdict;
 use reception::Reception;
+use sequence::SequenceAnswer;
 
 pub mod inner;
 
 // The most PDUs that a call writes.
 const LARGEST_BUDGET: usize = 16;
-
-pub enum SequenceAnswer {
-    // PDUs, octets written, new cursor.
-    Sent(usize, usize, usize),
-    Refused(Refusal),
-}
 
 // The checks of a call, `given` the length of its buffer.
 pub fn sequence_checks(
@@ -44,9 +40,7 @@ pub fn sequence_checks(
     if bad_identity(identity) {
         return Verdict::Refused(Refusal::BadIdentity);
     }
-    let h = inner::header_length(identity);
-    let f = flag.field_length();
-    if inner::bad_size(largest, h, f) {
+    if inner::bad_size(identity, flag, largest) {
         return Verdict::Refused(Refusal::PduSize);
     }
     // No number of a sound record's list is above progress.
@@ -94,9 +88,7 @@ pub fn write_nak_sequence(
     if let Verdict::Refused(r) = found {
         return SequenceAnswer::Refused(r);
     }
-    let h = inner::header_length(identity);
-    let f = flag.field_length();
-    let k = inner::per_pdu(largest, h, f);
+    let k = per_pdu(identity, flag, largest);
     let e = inner::entry_count(rec);
     let pdus = inner::smaller(budget, (e - cursor + (k - 1)) / k);
     let octets = inner::write_pdus(buf, rec, list, identity, flag, k, cursor, pdus);

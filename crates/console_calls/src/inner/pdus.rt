@@ -178,7 +178,7 @@ pub fn sequence(
     let lent = part::first_numbers(memory, s.length);
     let size = part::first_octets(buf, values[9] as usize);
     let rec = s.rec;
-    let a = c_answers::sequence::of_sequence(nak_sequence::write_nak_sequence(
+    let a = c_answers::pdus::of_sequence(nak_sequence::write_nak_sequence(
         rec,
         &memory[..lent],
         identity_of(values),

@@ -6,7 +6,7 @@ ghost use Prim.Native.Nat.{_≤_};
 ghost use lib.ListN.{length};
 ghost use Rattle.ranges.specs.Store.{flat, mostNumbers};
 ghost use Rattle.octets.specs.Flag.{fieldLength};
-ghost use Rattle.nak.specs.Pdu.{headerLength, dataLength, pduLength};
+ghost use Rattle.nak.specs.Pdu.{headerLength, dataLength, pduLength, perPdu, isTooSmall};
 ghost use Rattle.nak.specs.Inner.{asked, GoodLengths};
 
 // H, by the identifier lengths.
@@ -33,6 +33,24 @@ pub fn pdu_length(identity: Identity, flag: LargeFileFlag, numbers: usize) -> us
 {
     let h = header_length(identity.entity_length, identity.number_length);
     h + data_length(flag, numbers)
+}
+
+// Whether a PDU of at most `largest` octets has no room for a request.
+pub fn too_small(identity: Identity, flag: LargeFileFlag, largest: usize) -> bool
+    requires { ⌜ GoodLengths identity ⌝ }
+    ensures { λ r. ⌜ r ≡ isTooSmall flag identity largest ⌝ }
+{
+    largest < pdu_length(identity, flag, 2)
+}
+
+// k: how many requests a PDU of at most `largest` octets has room for.
+pub fn per_pdu(identity: Identity, flag: LargeFileFlag, largest: usize) -> usize
+    requires { ⌜ GoodLengths identity × (pduLength flag identity 2 ≤ largest) ⌝ }
+    ensures { λ r. ⌜ r ≡ perPdu flag identity largest ⌝ }
+{
+    let h = header_length(identity.entity_length, identity.number_length);
+    let f = flag.field_length();
+    (largest - h - 1 - 2 * f) / (2 * f)
 }
 
 // How many numbers the metadata request has, where it is asked for.

@@ -13,7 +13,7 @@ use Rattle.nak.specs.declared.Identity.{Identity}
 use Rattle.ranges.specs.Range.{Range}
 use Rattle.octets.specs.declared.LargeFileFlag.{LargeFileFlag}
 use Rattle.reception.specs.declared.Reception.{Reception}
-use Rattle.nak_sequence.specs.Entries.{askingFor, entriesIn, scopeStart, lastEndOf, nakAt}
+use Rattle.sequence.specs.Entries.{askingFor, entriesIn, scopeStart, lastEndOf, nakAt}
 use Rattle.nak_sequence.specs.Inner.{entryCount}
 use Rattle.nak_sequence.proofs.Listed.{first-nak, later-nak, known-nak, few-first, few-later, few-known}
 use Rattle.nak_sequence.proofs.inner.write_pdu.Statement.{statement}

@@ -4,9 +4,10 @@ use native.Mathlib.Omega.{arith}
 use Prim.Native.Nat.{_-_}
 use mathlib.Core.Path.{_≡_}
 use Rattle.nak_sequence.specs.Inner.{entryCount}
-use Rattle.nak_sequence.specs.Entries.{askingFor}
+use Rattle.sequence.specs.Entries.{askingFor}
+use Rattle.sequence.proofs.Together.{begins-before}
 use Rattle.nak_sequence.proofs.Listed.{count-le}
-use Rattle.nak_sequence.proofs.Chain.{begins-before, Done, done-begin, done-room, done-step}
+use Rattle.nak_sequence.proofs.Chain.{Done, done-begin, done-room, done-step}
 use Rattle.nak_sequence.proofs.inner.write_pdus.Statement.{statement}
 use Rattle.nak_sequence.proofs.inner.write_pdus.Tie as tie
 

@@ -4,7 +4,7 @@ use native.Mathlib.Omega.{arith}
 use Prim.Native.Nat.{_*_}
 use lib.ListN.{length}
 use borrow.Author.Needs.{needs}
-use Rattle.nak_sequence.proofs.Sizes.{field-low, field-high}
+use Rattle.nak.proofs.Room.{field-low, field-high}
 use Rattle.console_calls.proofs.inner.pdus.steps_of.Statement.{statement}
 use Rattle.console_calls.proofs.inner.pdus.steps_of.Tie as tie
 
