@@ -6,6 +6,7 @@ use lib.ListN.{length}
 use Rattle.octets.specs.declared.LargeFileFlag.{LargeFileFlag}
 use Rattle.octets.specs.declared.LargeFileFlag.the-variants.{Normal, Large}
 use Rattle.octets.specs.Flag.{fieldLength}
+use Rattle.nak.specs.declared.Form.{Form}
 use Rattle.nak.specs.declared.Identity.{Identity}
 use Rattle.nak.specs.Pdu.{Nak, pdu, headerLength, pduLength, perPdu}
 use Rattle.nak.proofs.Parts.{length-of-pdu}
@@ -19,12 +20,12 @@ pub field-high : (g : LargeFileFlag) → fieldLength g ≤ 8
 field-high Normal = omega arith
 field-high Large = omega arith
 
-module _ (g : LargeFileFlag) (d : Identity) (p : ℕ) where
+module _ (g : Form) (d : Identity) (p : ℕ) where
   abbrev h : ℕ
   h = headerLength (d .«entity_length») (d .«number_length»)
 
   abbrev f : ℕ
-  f = fieldLength g
+  f = fieldLength (g .flag)
 
   -- room for one request, in F
   pub one-room : pduLength g d 2 ≤ p → h + 1 + 4 * f ≤ p
@@ -33,7 +34,7 @@ module _ (g : LargeFileFlag) (d : Identity) (p : ℕ) where
   -- room for one request is room for k ≥ 1
   pub per-low : pduLength g d 2 ≤ p → 1 ≤ perPdu g d p
   per-low k =
-      let l = field-low g in
+      let l = field-low (g .flag) in
       let r = one-room k in
       let z : 0 < 2 * f = omega arith in
       let o = one-mul (2 * f) in
@@ -43,13 +44,13 @@ module _ (g : LargeFileFlag) (d : Identity) (p : ℕ) where
   per-high = let q = div-le-self (p - h - 1 - 2 * f) (2 * f) in omega arith
 
 -- a PDU with at most k requests has at most P octets
-pub per-short : (n : Nak) (p : ℕ) → pduLength (n .flag) (n .identity) 2 ≤ p → length (n .requests) ≤ perPdu (n .flag) (n .identity) p → length (pdu n) ≤ p
+pub per-short : (n : Nak) (p : ℕ) → pduLength (n .form) (n .identity) 2 ≤ p → length (n .requests) ≤ perPdu (n .form) (n .identity) p → length (pdu n) ≤ p
 per-short n p k u =
-    let g : ℕ = fieldLength (n .flag) in
+    let g : ℕ = fieldLength (n .form .flag) in
     let m : ℕ = length (n .requests) in
-    let e : ℕ = perPdu (n .flag) (n .identity) p in
-    let hd : ℕ = h (n .flag) (n .identity) p in
-    let r = one-room (n .flag) (n .identity) p k in
+    let e : ℕ = perPdu (n .form) (n .identity) p in
+    let hd : ℕ = h (n .form) (n .identity) p in
+    let r = one-room (n .form) (n .identity) p k in
     let l = length-of-pdu n in
     let v : 2 * g * m ≤ 2 * g * e = mul-le-mul-left (2 * g) u in
     let w : e * (2 * g) ≤ p - hd - 1 - 2 * g = div-mul-le-self (p - hd - 1 - 2 * g) (2 * g) in

@@ -15,7 +15,7 @@ use Rattle.outcomes.proofs.Refusals.{lent-refused}
 use Rattle.ranges.specs.Range.{lastEnd}
 use Rattle.ranges.specs.Store.{counted, anyAbove}
 use Rattle.ranges.proofs.Last.{above-counted}
-use Rattle.octets.specs.declared.LargeFileFlag.{LargeFileFlag}
+use Rattle.nak.specs.declared.Form.{Form}
 use Rattle.octets.specs.Flag.{largestOf}
 use Rattle.nak.specs.Pdu.{isTooSmall}
 use Rattle.nak.specs.Writer.{largestPdu}
@@ -63,22 +63,22 @@ module _ (rec : Reception) (xs : List ℕ) (o : Order) (buf : List ℕ) where
   sent-by k = let e = seq-sent rec xs o (length buf) k in (e, left done e)
 
 -- the tests of 14 and of 7
-pub size-of : (o : Order) → (ltb largestPdu (o .largest) || isTooSmall (o .flag) (o .identity) (o .largest)) ≡ isBadSize o
+pub size-of : (o : Order) → (ltb largestPdu (o .largest) || isTooSmall (o .form) (o .identity) (o .largest)) ≡ isBadSize o
 unfolding isBadSize
 size-of o = refl
 
-module _ (rec : Reception) (xs : List ℕ) (g : LargeFileFlag) where
-  pub large-progress : largestOf g < rec .progress → isTooLarge rec xs g ≡ true
+module _ (rec : Reception) (xs : List ℕ) (g : Form) where
+  pub large-progress : largestOf (g .flag) < rec .progress → isTooLarge rec xs g ≡ true
   unfolding isTooLarge
-  large-progress h = rw (lt-ltb (largestOf g) (rec .progress) h)
+  large-progress h = rw (lt-ltb (largestOf (g .flag)) (rec .progress) h)
 
   -- no number of a sound record's list is above progress
-  none-larger : Passed xs rec → rec .progress ≤ largestOf g → anyAbove (largestOf g) (take (2 * rec .count) xs) ≡ false
+  none-larger : Passed xs rec → rec .progress ≤ largestOf (g .flag) → anyAbove (largestOf (g .flag)) (take (2 * rec .count) xs) ≡ false
   none-larger p h =
       let s = sound xs rec p in
       let e = s .above in
-      above-counted (largestOf g) xs (rec .count) (s .store .room) (s .whole) ∙ le-ltb (largestOf g) (lastEnd (counted xs (rec .count))) (omega arith)
+      above-counted (largestOf (g .flag)) xs (rec .count) (s .store .room) (s .whole) ∙ le-ltb (largestOf (g .flag)) (lastEnd (counted xs (rec .count))) (omega arith)
 
-  pub large-fine : Passed xs rec → rec .progress ≤ largestOf g → isTooLarge rec xs g ≡ false
+  pub large-fine : Passed xs rec → rec .progress ≤ largestOf (g .flag) → isTooLarge rec xs g ≡ false
   unfolding isTooLarge
-  large-fine p h = rw (le-ltb (largestOf g) (rec .progress) h, none-larger p h)
+  large-fine p h = rw (le-ltb (largestOf (g .flag)) (rec .progress) h, none-larger p h)

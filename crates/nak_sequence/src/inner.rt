@@ -11,11 +11,11 @@ ghost use Rattle.ranges.specs.Store.{mostPairs};
 ghost use Rattle.nak.specs.Writer.{largestPdu};
 ghost use Rattle.sequence.specs.Entries.{askingFor, entriesIn, endOf, scopeStart, roundedUp, nakAt, naks, octetsOf, lastEndOf};
 ghost use Rattle.nak_sequence.specs.Inner.{entryCount, Listed};
+use nak::Form;
 use nak::Identity;
 use nak::LARGEST_PDU;
 use nak::inner::lengths::too_small;
 use nak::inner::write_at;
-use octets::LargeFileFlag;
 use reception::Reception;
 
 // The smaller of two numbers.
@@ -26,14 +26,14 @@ pub fn smaller(a: usize, b: usize) -> usize
 }
 
 // Whether the largest PDU is too large, or has no room for one request.
-pub fn bad_size(identity: Identity, flag: LargeFileFlag, largest: usize) -> bool
+pub fn bad_size(identity: Identity, form: Form, largest: usize) -> bool
     requires { ⌜ GoodLengths identity ⌝ }
-    ensures { λ r. ⌜ r ≡ (ltb largestPdu largest || isTooSmall flag identity largest) ⌝ }
+    ensures { λ r. ⌜ r ≡ (ltb largestPdu largest || isTooSmall form identity largest) ⌝ }
 {
     if LARGEST_PDU < largest {
         return true;
     }
-    too_small(identity, flag, largest)
+    too_small(identity, form, largest)
 }
 
 // E: how many entries there are.
@@ -92,25 +92,25 @@ fn write_pdu(
     rec: Reception,
     list: &[u64],
     identity: Identity,
-    flag: LargeFileFlag,
+    form: Form,
     k: usize,
     f: usize,
 ) -> usize
     requires { ⌜ GoodLengths identity × (Listed rec (now list) × ((1 ≤ k) × ((k ≤ largestPdu) × (f < entryCount rec)))) ⌝ }
-    requires { ⌜ at + length (pdu (nakAt (askingFor rec (now list) flag identity k) f)) ≤ length (now buf) ⌝ }
-    ensures { λ r. ⌜ r ≡ at + length (pdu (nakAt (askingFor rec (now (list .entry)) flag identity k) f)) ⌝ }
-    ensures { λ _. ⌜ now (buf .exit) ≡ withOctets (now (buf .entry)) at (pdu (nakAt (askingFor rec (now (list .entry)) flag identity k) f)) ⌝ }
+    requires { ⌜ at + length (pdu (nakAt (askingFor rec (now list) form identity k) f)) ≤ length (now buf) ⌝ }
+    ensures { λ r. ⌜ r ≡ at + length (pdu (nakAt (askingFor rec (now (list .entry)) form identity k) f)) ⌝ }
+    ensures { λ _. ⌜ now (buf .exit) ≡ withOctets (now (buf .entry)) at (pdu (nakAt (askingFor rec (now (list .entry)) form identity k) f)) ⌝ }
 {
     let start = scope_start(rec, list, f);
     let end = scope_end(rec, list, k, f);
     let m = smaller(k, entry_count(rec) - f);
     if rec.missing {
         if f == 0 {
-            return write_at(buf, at, identity, flag, start, end, true, list, 0, m - 1);
+            return write_at(buf, at, identity, form, start, end, true, list, 0, m - 1);
         }
-        return write_at(buf, at, identity, flag, start, end, false, list, f - 1, m);
+        return write_at(buf, at, identity, form, start, end, false, list, f - 1, m);
     }
-    write_at(buf, at, identity, flag, start, end, false, list, f, m)
+    write_at(buf, at, identity, form, start, end, false, list, f, m)
 }
 
 // The PDUs from entry `from` on, `pdus` of them, written from the buffer's front; hands back the octets written.
@@ -119,21 +119,21 @@ pub fn write_pdus(
     rec: Reception,
     list: &[u64],
     identity: Identity,
-    flag: LargeFileFlag,
+    form: Form,
     k: usize,
     from: usize,
     pdus: usize,
 ) -> usize
     requires { ⌜ GoodLengths identity × (Listed rec (now list) × ((1 ≤ k) × ((k ≤ largestPdu) × (pdus ≤ roundedUp (entryCount rec - from) k)))) ⌝ }
-    requires { ⌜ length (octetsOf (naks (askingFor rec (now list) flag identity k) from pdus)) ≤ length (now buf) ⌝ }
-    ensures { λ r. ⌜ r ≡ length (octetsOf (naks (askingFor rec (now (list .entry)) flag identity k) from pdus)) ⌝ }
-    ensures { λ _. ⌜ now (buf .exit) ≡ withOctets (now (buf .entry)) 0 (octetsOf (naks (askingFor rec (now (list .entry)) flag identity k) from pdus)) ⌝ }
+    requires { ⌜ length (octetsOf (naks (askingFor rec (now list) form identity k) from pdus)) ≤ length (now buf) ⌝ }
+    ensures { λ r. ⌜ r ≡ length (octetsOf (naks (askingFor rec (now (list .entry)) form identity k) from pdus)) ⌝ }
+    ensures { λ _. ⌜ now (buf .exit) ≡ withOctets (now (buf .entry)) 0 (octetsOf (naks (askingFor rec (now (list .entry)) form identity k) from pdus)) ⌝ }
 {
     let mut at = 0;
     let mut f = from;
     let mut n = 0;
     while n < pdus {
-        at = write_pdu(buf, at, rec, list, identity, flag, k, f);
+        at = write_pdu(buf, at, rec, list, identity, form, k, f);
         f += k;
         n += 1;
     }

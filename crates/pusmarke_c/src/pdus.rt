@@ -2,13 +2,13 @@
 ghost use mathlib.Core.Path.{_≡_};
 ghost use lib.ListN.{length};
 ghost use Rattle.sequence.specs.Sequence.{sequenceOutcome, sequenceBuffer, order};
-ghost use Rattle.c_values.specs.Input.{recordIn, identityIn, flagIn};
+ghost use Rattle.c_values.specs.Input.{recordIn, identityIn, formIn};
 ghost use Rattle.c_answers.specs.Answer.{answerOf};
 use c_answers::PusmarkeAnswer;
 use c_answers::pdus::of_sequence;
 use c_values::PusmarkeIdentity;
 use c_values::PusmarkeReception;
-use c_values::inner::flag_in;
+use c_values::inner::form_in;
 use c_values::inner::identity_in;
 use c_values::inner::record_in;
 
@@ -23,17 +23,17 @@ pub extern "C" fn pusmarke_nak_sequence(
     budget: usize,
     buf: &mut [u8],
 ) -> PusmarkeAnswer
-    ensures { λ r. ⌜ r ≡ answerOf (sequenceOutcome (recordIn rec) (now (list .entry)) (order (identityIn identity) (flagIn large) largest cursor budget) (length (now (buf .entry)))) ⌝ }
-    ensures { λ _. ⌜ now (buf .exit) ≡ sequenceBuffer (recordIn rec) (now (list .entry)) (order (identityIn identity) (flagIn large) largest cursor budget) (now (buf .entry)) ⌝ }
+    ensures { λ r. ⌜ r ≡ answerOf (sequenceOutcome (recordIn rec) (now (list .entry)) (order (identityIn identity) (formIn large) largest cursor budget) (length (now (buf .entry)))) ⌝ }
+    ensures { λ _. ⌜ now (buf .exit) ≡ sequenceBuffer (recordIn rec) (now (list .entry)) (order (identityIn identity) (formIn large) largest cursor budget) (now (buf .entry)) ⌝ }
 {
     let own = record_in(rec);
     let asking = identity_in(identity);
-    let flag = flag_in(large);
+    let form = form_in(large);
     of_sequence(nak_sequence::write_nak_sequence(
         own,
         list,
         asking,
-        flag,
+        form,
         largest,
         cursor,
         budget,

@@ -18,7 +18,7 @@ pub record Checked (rec : Reception) (xs : List ℕ) (o : Order) (given : ℕ) :
   pub passed : Passed xs rec
   pub identity : isBadIdentity (o .identity) ≡ false
   pub size : isBadSize o ≡ false
-  pub large : isTooLarge rec xs (o .flag) ≡ false
+  pub large : isTooLarge rec xs (o .form) ≡ false
   pub cursor : o .cursor ≤ length (asked rec xs o .entries)
   pub budget : o .budget ≤ largestBudget
   pub room : o .budget * o .largest ≤ given

@@ -75,7 +75,7 @@ module _
     (o : Order)
     (id : isBadIdentity (o .identity) ≡ false)
     (sz : isBadSize o ≡ false)
-    (lg : isTooLarge (run (fresh w xs) es .rec) (run (fresh w xs) es .list) (o .flag) ≡ false)
+    (lg : isTooLarge (run (fresh w xs) es .rec) (run (fresh w xs) es .list) (o .form) ≡ false)
     (cs : List Call) (fit : AllFit o cs)
   where
     abbrev reached : State
@@ -112,8 +112,8 @@ module _
           ap joined parts ∙ joined-pdus (naks a 0 count) ∙ sym some-octets,
         )
 
-    -- the reader accepts each, none is longer than P, and each carries the identity and the flag of the order
-    pub calls-read : AllRead (o .largest) (o .identity) (o .flag) (parted octets)
+    -- the reader accepts each, none is longer than P, and each carries the identity and the form of the order
+    pub calls-read : AllRead (o .largest) (o .identity) (o .form) (parted octets)
     calls-read = rw parts (all-read (reached .rec) (reached .list) o sound id sz lg 0 count)
 
     -- once the budgets suffice

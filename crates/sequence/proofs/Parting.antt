@@ -1,5 +1,5 @@
 -- PDUs back to back are parted by their own length fields into the PDUs that were written. The reader accepts each, and gives back the
--- identity, the flag and the requests that it was written with.
+-- identity, the form and the requests that it was written with.
 use mathlib.Core.Path.{_≡_, refl, sym, ap, ap₂, _∙_}
 use mathlib.Core.Bool.{false}
 use mathlib.Core.List.{List, [], _∷_, _++_}
@@ -88,7 +88,7 @@ module _
     (ps : Passed xs rec)
     (id : isBadIdentity (o .identity) ≡ false)
     (sz : isBadSize o ≡ false)
-    (lg : isTooLarge rec xs (o .flag) ≡ false)
+    (lg : isTooLarge rec xs (o .form) ≡ false)
   where
     abbrev a : Asking
     a = asked rec xs o
@@ -124,11 +124,11 @@ module _
     parted-naks f n = parted-in f n (length (octetsOf (naks a f n))) (omega arith)
 
     -- the reader accepts each
-    pub all-read : (f n : ℕ) → AllRead (o .largest) (o .identity) (o .flag) (pdus (naks a f n))
+    pub all-read : (f n : ℕ) → AllRead (o .largest) (o .identity) (o .form) (pdus (naks a f n))
     all-read f zero = tt
     all-read f (suc n) =
         let s = pdu-readable rec xs o ps id sz lg f .1 in
-        (s .refusal, pdu-short a (o .largest) f refl (some-each o sz), s .identity, s .flag, all-read (f + a .each) n)
+        (s .refusal, pdu-short a (o .largest) f refl (some-each o sz), s .identity, s .form, all-read (f + a .each) n)
 
     -- and gives its requests
     given : (f : ℕ) → requestsGiven (pdu (nakAt a f)) ≡ nakAt a f .requests

@@ -1,5 +1,5 @@
 -- Each PDU of a sequence that is sent is a PDU within the limits: no scope starts after its end, no offset is cut, each request may
--- stand where it does. So the reader accepts it, and gives back identity, flag, scope and requests.
+-- stand where it does. So the reader accepts it, and gives back identity, form, scope and requests.
 use mathlib.Core.Path.{_≡_, refl, sym, ap}
 use mathlib.Core.Bool.{Bool, true, false}
 use mathlib.Core.List.{List, [], _∷_}
@@ -12,7 +12,7 @@ use Rattle.ranges.specs.Range.{Range, range, Above, Coalesced, lastEnd}
 use Rattle.ranges.specs.Store.{flat, counted, anyAbove}
 use Rattle.outcomes.specs.Outcome.{accepted}
 use Rattle.ranges.proofs.Test.{or-false}
-use Rattle.octets.specs.declared.LargeFileFlag.{LargeFileFlag}
+use Rattle.nak.specs.declared.Form.{Form}
 use Rattle.nak.specs.declared.Identity.{Identity}
 use Rattle.octets.specs.Flag.{largestOf}
 use Rattle.nak.specs.Pdu.{pdu}
@@ -108,7 +108,7 @@ entries-ascend true (suc i) zero rs s h u = absurd (omega arith)
 entries-ascend true (suc i) (suc j) rs s h u = ends-ascend 0 i j rs s (omega arith) (omega arith)
 
 -- the scopes of a sequence
-module _ (m : Bool) (p k : ℕ) (rs : List Range) (low : 1 ≤ k) (s : Coalesced rs) (w : Within p rs) (g : LargeFileFlag) (d : Identity) where
+module _ (m : Bool) (p k : ℕ) (rs : List Range) (low : 1 ≤ k) (s : Coalesced rs) (w : Within p rs) (g : Form) (d : Identity) where
   abbrev shared : Asking
   shared = asking g d p (entriesOf m rs) k
 
@@ -148,18 +148,18 @@ module _ (m : Bool) (p k : ℕ) (rs : List Range) (low : 1 ≤ k) (s : Coalesced
       go (yes h) = omega (arith, scope-joined f h, starts-ascend f (f + k) (omega arith) (omega arith))
       go (no h) = omega (arith, scope-last f (omega arith), start-within f)
 
-  numbers-fine : (f : ℕ) → p ≤ largestOf g → anyAbove (largestOf g) (scopeStart (entriesOf m rs) f ∷ scopeEnd shared f ∷ flat (take k (drop f (entriesOf m rs)))) ≡ false
+  numbers-fine : (f : ℕ) → p ≤ largestOf (g .flag) → anyAbove (largestOf (g .flag)) (scopeStart (entriesOf m rs) f ∷ scopeEnd shared f ∷ flat (take k (drop f (entriesOf m rs)))) ≡ false
   numbers-fine f h =
       let a = start-within f in
       let b = end-within f in
-      rw (le-ltb (largestOf g) (scopeStart (entriesOf m rs) f) (omega arith), le-ltb (largestOf g) (scopeEnd shared f) (omega arith)) (entries-numbers m p (largestOf g) k f rs h w)
+      rw (le-ltb (largestOf (g .flag)) (scopeStart (entriesOf m rs) f) (omega arith), le-ltb (largestOf (g .flag)) (scopeEnd shared f) (omega arith)) (entries-numbers m p (largestOf (g .flag)) k f rs h w)
 
 -- what check 7 leaves
-small-progress : (rec : Reception) (xs : List ℕ) (g : LargeFileFlag) → isTooLarge rec xs g ≡ false → rec .progress ≤ largestOf g
+small-progress : (rec : Reception) (xs : List ℕ) (g : Form) → isTooLarge rec xs g ≡ false → rec .progress ≤ largestOf (g .flag)
 unfolding isTooLarge
-small-progress rec xs g e = ltb-false (largestOf g) (rec .progress) (or-false _ _ e .0)
+small-progress rec xs g e = ltb-false (largestOf (g .flag)) (rec .progress) (or-false _ _ e .0)
 
-module _ (rec : Reception) (xs : List ℕ) (o : Order) (ps : Passed xs rec) (id : isBadIdentity (o .identity) ≡ false) (sz : isBadSize o ≡ false) (lg : isTooLarge rec xs (o .flag) ≡ false) where
+module _ (rec : Reception) (xs : List ℕ) (o : Order) (ps : Passed xs rec) (id : isBadIdentity (o .identity) ≡ false) (sz : isBadSize o ≡ false) (lg : isTooLarge rec xs (o .form) ≡ false) where
   abbrev a : Asking
   a = asked rec xs o
 
@@ -170,10 +170,10 @@ module _ (rec : Reception) (xs : List ℕ) (o : Order) (ps : Passed xs rec) (id 
   within = above-within 0 (rec .progress) (counted xs (rec .count)) whole (sound xs rec ps .above)
 
   pub scope-next : (f : ℕ) → f + a .each < length (a .entries) → scopeEnd a f ≡ scopeStart (a .entries) (f + a .each)
-  scope-next = scope-joined (rec .missing) (rec .progress) (a .each) (counted xs (rec .count)) (each-low o sz) whole within (o .flag) (o .identity)
+  scope-next = scope-joined (rec .missing) (rec .progress) (a .each) (counted xs (rec .count)) (each-low o sz) whole within (o .form) (o .identity)
 
   pub scope-end : (f : ℕ) → length (a .entries) ≤ f + a .each → scopeEnd a f ≡ rec .progress
-  scope-end = scope-last (rec .missing) (rec .progress) (a .each) (counted xs (rec .count)) (each-low o sz) whole within (o .flag) (o .identity)
+  scope-end = scope-last (rec .missing) (rec .progress) (a .each) (counted xs (rec .count)) (each-low o sz) whole within (o .form) (o .identity)
 
   -- every PDU of the sequence is within the limits
   pub pdu-fine : (f : ℕ) → NakFine (nakAt a f)
@@ -182,9 +182,9 @@ module _ (rec : Reception) (xs : List ℕ) (o : Order) (ps : Passed xs rec) (id 
       let q = pdu-short a (o .largest) f refl (some-each o sz) in
       record {
         identity = id;
-        scope = scope-ordered (rec .missing) (rec .progress) (a .each) (counted xs (rec .count)) (each-low o sz) whole within (o .flag) (o .identity) f;
+        scope = scope-ordered (rec .missing) (rec .progress) (a .each) (counted xs (rec .count)) (each-low o sz) whole within (o .form) (o .identity) f;
         requests = entries-fine (rec .missing) (rec .progress) (a .each) f (counted xs (rec .count)) within;
-        numbers = numbers-fine (rec .missing) (rec .progress) (a .each) (counted xs (rec .count)) (each-low o sz) whole within (o .flag) (o .identity) f (small-progress rec xs (o .flag) lg);
+        numbers = numbers-fine (rec .missing) (rec .progress) (a .each) (counted xs (rec .count)) (each-low o sz) whole within (o .form) (o .identity) f (small-progress rec xs (o .form) lg);
         size = omega arith;
       }
 

@@ -14,7 +14,7 @@ use Rattle.sequence.specs.Entries.{Asking, nakAt}
 use Rattle.sequence.specs.Sequence.{Order, isBadSize}
 
 -- the PDU from entry f on has at most k requests
-pub pdu-short : (a : Asking) (p f : ℕ) → a .each ≡ perPdu (a .flag) (a .identity) p → pduLength (a .flag) (a .identity) 2 ≤ p → length (pdu (nakAt a f)) ≤ p
+pub pdu-short : (a : Asking) (p f : ℕ) → a .each ≡ perPdu (a .form) (a .identity) p → pduLength (a .form) (a .identity) 2 ≤ p → length (pdu (nakAt a f)) ≤ p
 pdu-short a p f e h =
     let t = length-take (a .each) (drop f (a .entries)) in
     per-short (nakAt a f) p h (omega arith)
@@ -24,11 +24,11 @@ pub small-size : (o : Order) → isBadSize o ≡ false → o .largest ≤ larges
 unfolding isBadSize
 small-size o e = ltb-false largestPdu (o .largest) (or-false _ _ e .0)
 
-pub some-each : (o : Order) → isBadSize o ≡ false → pduLength (o .flag) (o .identity) 2 ≤ o .largest
+pub some-each : (o : Order) → isBadSize o ≡ false → pduLength (o .form) (o .identity) 2 ≤ o .largest
 unfolding isBadSize
 some-each o e =
-    let w = or-false (ltb largestPdu (o .largest)) (isTooSmall (o .flag) (o .identity) (o .largest)) e in
-    ltb-false (o .largest) (pduLength (o .flag) (o .identity) 2) (w .1)
+    let w = or-false (ltb largestPdu (o .largest)) (isTooSmall (o .form) (o .identity) (o .largest)) e in
+    ltb-false (o .largest) (pduLength (o .form) (o .identity) 2) (w .1)
 
-pub each-low : (o : Order) → isBadSize o ≡ false → 1 ≤ perPdu (o .flag) (o .identity) (o .largest)
-each-low o e = per-low (o .flag) (o .identity) (o .largest) (some-each o e)
+pub each-low : (o : Order) → isBadSize o ≡ false → 1 ≤ perPdu (o .form) (o .identity) (o .largest)
+each-low o e = per-low (o .form) (o .identity) (o .largest) (some-each o e)

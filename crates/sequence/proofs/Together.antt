@@ -160,7 +160,7 @@ module _
     (ps : Passed xs rec)
     (id : isBadIdentity (o .identity) ≡ false)
     (sz : isBadSize o ≡ false)
-    (lg : isTooLarge rec xs (o .flag) ≡ false)
+    (lg : isTooLarge rec xs (o .form) ≡ false)
   where
     abbrev a : Asking
     a = asked rec xs o

@@ -20,9 +20,9 @@ abbrev pub AllFit : Order → List Call → Type 0
 AllFit o [] = Unit
 AllFit o (c ∷ cs) = Fits o c × AllFit o cs
 
--- The call's order: identity, flag and largest PDU are those of the run.
+-- The call's order: identity, form and largest PDU are those of the run.
 abbrev pub calling : Order → ℕ → Call → Order
-calling o j c = order (o .identity) (o .flag) (o .largest) j (c .budget)
+calling o j c = order (o .identity) (o .form) (o .largest) j (c .budget)
 
 -- What the call from cursor j answers, and what its buffer holds afterwards.
 abbrev pub answered : Reception → List ℕ → Order → ℕ → Call → Outcome
@@ -64,4 +64,4 @@ budgets (c ∷ cs) = c .budget + budgets cs
 
 -- The octets of the whole sequence, as defined from cursor 0: what a budget of one PDU for each entry writes.
 abbrev pub wholeSequence : Reception → List ℕ → Order → List ℕ
-wholeSequence rec xs o = sent (asked rec xs o) (order (o .identity) (o .flag) (o .largest) 0 (length (asked rec xs o .entries)))
+wholeSequence rec xs o = sent (asked rec xs o) (order (o .identity) (o .form) (o .largest) 0 (length (asked rec xs o .entries)))

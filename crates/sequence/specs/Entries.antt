@@ -7,7 +7,7 @@ use lib.Dec.{ltb}
 use Rattle.ranges.specs.Range.{Range, range}
 use Rattle.ranges.specs.Store.{counted}
 use Rattle.reception.specs.declared.Reception.{Reception}
-use Rattle.octets.specs.declared.LargeFileFlag.{LargeFileFlag}
+use Rattle.nak.specs.declared.Form.{Form}
 use Rattle.nak.specs.declared.Identity.{Identity}
 use Rattle.nak.specs.Pdu.{Nak, saying, pdu}
 
@@ -19,22 +19,22 @@ entriesOf missing rs = cond missing (range 0 0 ∷ []) [] ++ rs
 abbrev pub roundedUp : ℕ → ℕ → ℕ
 roundedUp a b = (a + (b - 1)) / b
 
--- What all PDUs of a sequence share: the flag, the identity, progress, the entries, and k.
+-- What all PDUs of a sequence share: the form, the identity, progress, the entries, and k.
 pub record Asking : Type 0 where
-  pub flag : LargeFileFlag
+  pub form : Form
   pub identity : Identity
   pub progress : ℕ
   pub entries : List Range
   pub each : ℕ
 
-abbrev pub asking : LargeFileFlag → Identity → ℕ → List Range → ℕ → Asking
-asking g d p es k = record { flag = g; identity = d; progress = p; entries = es; each = k }
+abbrev pub asking : Form → Identity → ℕ → List Range → ℕ → Asking
+asking g d p es k = record { form = g; identity = d; progress = p; entries = es; each = k }
 
 -- The entries of a record and its list, and what the PDUs that ask for them share.
 abbrev pub entriesIn : Reception → List ℕ → List Range
 entriesIn rec xs = entriesOf (rec .missing) (counted xs (rec .count))
 
-abbrev pub askingFor : Reception → List ℕ → LargeFileFlag → Identity → ℕ → Asking
+abbrev pub askingFor : Reception → List ℕ → Form → Identity → ℕ → Asking
 askingFor rec xs g d k = asking g d (rec .progress) (entriesIn rec xs) k
 
 -- The end of entry i.
@@ -55,7 +55,7 @@ scopeEnd a f = lastEndOf (a .entries) (a .progress) (a .each) f
 
 -- The PDU from entry f on: at most k entries.
 abbrev pub nakAt : Asking → ℕ → Nak
-nakAt a f = saying (a .flag) (a .identity) (scopeStart (a .entries) f) (scopeEnd a f) (take (a .each) (drop f (a .entries)))
+nakAt a f = saying (a .form) (a .identity) (scopeStart (a .entries) f) (scopeEnd a f) (take (a .each) (drop f (a .entries)))
 
 -- n PDUs, the first from entry f on, each of the others from k entries further on.
 abbrev pub naks : Asking → ℕ → ℕ → List Nak

@@ -5,7 +5,7 @@ use mathlib.Core.Bool.{cond}
 use mathlib.Core.List.{List, [], _∷_, _++_}
 use lib.ListN.{length, take, drop}
 use Rattle.ranges.specs.Range.{Range}
-use Rattle.octets.specs.declared.LargeFileFlag.{LargeFileFlag}
+use Rattle.nak.specs.declared.Form.{Form}
 use Rattle.nak.specs.declared.Identity.{Identity}
 use Rattle.nak.specs.Request.{isMetadata}
 use Rattle.nak_parser.specs.Parser.{headerLengthIn, lengthField, parsedOf}
@@ -30,11 +30,11 @@ abbrev pub joined : List (List ℕ) → List ℕ
 joined [] = []
 joined (p ∷ ps) = p ++ joined ps
 
--- Each packet is accepted by the reader, is at most so long, and carries this identity and this flag.
-abbrev pub AllRead : ℕ → Identity → LargeFileFlag → List (List ℕ) → Type 0
+-- Each packet is accepted by the reader, is at most so long, and carries this identity and this form.
+abbrev pub AllRead : ℕ → Identity → Form → List (List ℕ) → Type 0
 AllRead largest d g [] = Unit
 AllRead largest d g (p ∷ ps) =
-    (parsedOf p .refusal ≡ 0) × (length p ≤ largest) × (parsedOf p .identity ≡ d) × (parsedOf p .flag ≡ g) × AllRead largest d g ps
+    (parsedOf p .refusal ≡ 0) × (length p ≤ largest) × (parsedOf p .identity ≡ d) × (parsedOf p .form ≡ g) × AllRead largest d g ps
 
 -- The scopes that the reader gives of each packet join: the first starts at s, each later one where the one before ends, and the
 -- last ends at e.

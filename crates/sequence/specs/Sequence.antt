@@ -9,8 +9,8 @@ use Rattle.outcomes.specs.Outcome.{Outcome, accepted, lent}
 use Rattle.outcomes.specs.Refusal.{refusing}
 use Rattle.outcomes.specs.Checks.{Check, firstOf}
 use Rattle.outcomes.specs.declared.Refusal.the-variants as refusal
-use Rattle.octets.specs.declared.LargeFileFlag.{LargeFileFlag}
 use Rattle.octets.specs.Flag.{largestOf}
+use Rattle.nak.specs.declared.Form.{Form}
 use Rattle.nak.specs.declared.Identity.{Identity}
 use Rattle.nak.specs.Pdu.{perPdu, isTooSmall}
 use Rattle.nak.specs.Writer.{isBadIdentity, largestPdu}
@@ -25,16 +25,16 @@ abbrev pub sequenceCase : SequenceAnswer → Outcome
 sequenceCase (answer.Sent pdus octets cursor) = accepted (pdus ∷ octets ∷ cursor ∷ [])
 sequenceCase (answer.Refused r) = refusing r
 
--- What a call is asked: identity, flag, the largest PDU P, a cursor j and a PDU budget g.
+-- What a call is asked: identity, form, the largest PDU P, a cursor j and a PDU budget g.
 pub record Order : Type 0 where
   pub identity : Identity
-  pub flag : LargeFileFlag
+  pub form : Form
   pub largest : ℕ
   pub cursor : ℕ
   pub budget : ℕ
 
-abbrev pub order : Identity → LargeFileFlag → ℕ → ℕ → ℕ → Order
-order d g p j b = record { identity = d; flag = g; largest = p; cursor = j; budget = b }
+abbrev pub order : Identity → Form → ℕ → ℕ → ℕ → Order
+order d g p j b = record { identity = d; form = g; largest = p; cursor = j; budget = b }
 
 -- A call writes at most 16 PDUs.
 abbrev pub largestBudget : ℕ
@@ -42,15 +42,15 @@ largestBudget = 16
 
 -- 14: the largest PDU above 4,096, or below room for one request.
 unfoldable pub isBadSize : Order → Bool
-isBadSize o = ltb largestPdu (o .largest) || isTooSmall (o .flag) (o .identity) (o .largest)
+isBadSize o = ltb largestPdu (o .largest) || isTooSmall (o .form) (o .identity) (o .largest)
 
--- 7: progress or a number of the list too large for the flag.
-unfoldable pub isTooLarge : Reception → List ℕ → LargeFileFlag → Bool
-isTooLarge rec xs flag = ltb (largestOf flag) (rec .progress) || anyAbove (largestOf flag) (take (2 * rec .count) xs)
+-- 7: progress or a number of the list too large for the form.
+unfoldable pub isTooLarge : Reception → List ℕ → Form → Bool
+isTooLarge rec xs g = ltb (largestOf (g .flag)) (rec .progress) || anyAbove (largestOf (g .flag)) (take (2 * rec .count) xs)
 
 -- What the PDUs of this record, list and order share.
 abbrev pub asked : Reception → List ℕ → Order → Asking
-asked rec xs o = askingFor rec xs (o .flag) (o .identity) (perPdu (o .flag) (o .identity) (o .largest))
+asked rec xs o = askingFor rec xs (o .form) (o .identity) (perPdu (o .form) (o .identity) (o .largest))
 
 -- The number of PDUs: the smaller of g and (E − j)/k rounded up.
 abbrev pub pduCount : Asking → Order → ℕ
@@ -73,7 +73,7 @@ abbrev pub orderChecks : Reception → List ℕ → Order → ℕ → List Check
 orderChecks rec xs o given =
     (isBadIdentity (o .identity), refusal.BadIdentity)
     ∷ (isBadSize o, refusal.PduSize)
-    ∷ (isTooLarge rec xs (o .flag), refusal.LargeSegmentForNormalFileSize)
+    ∷ (isTooLarge rec xs (o .form), refusal.LargeSegmentForNormalFileSize)
     ∷ (ltb (length (asked rec xs o .entries)) (o .cursor), refusal.BadCursor)
     ∷ (ltb largestBudget (o .budget), refusal.BudgetTooLarge)
     ∷ (ltb given (o .budget * o .largest), refusal.BufferSizeMissmatch (o .budget * o .largest) given)

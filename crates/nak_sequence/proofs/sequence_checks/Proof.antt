@@ -33,7 +33,7 @@ abbrev xs : tie.After-record-checks → List ℕ
 xs b = b .before .before .args .list .now
 
 abbrev ord : tie.After-record-checks → Order
-ord b = let a = b .before .before .args in order (a .identity) (a .flag) (a .largest) (a .cursor) (a .budget)
+ord b = let a = b .before .before .args in order (a .identity) (a .form) (a .largest) (a .cursor) (a .budget)
 
 abbrev given : tie.After-record-checks → ℕ
 given b = b .before .before .args .given
@@ -84,10 +84,10 @@ sized c = sym (size (c .before)) ∙ c .if2 .left
 abbrev from3 : tie.Else3 → tie.Else2
 from3 c = c .before .before .before
 
-large : (c : tie.Else3) → let b = fromP (from2 (from3 c)) in isTooLarge (rec b) (xs b) (ord b .flag) ≡ false
+large : (c : tie.Else3) → let b = fromP (from2 (from3 c)) in isTooLarge (rec b) (xs b) (ord b .form) ≡ false
 large c =
     let b = fromP (from2 (from3 c)) in
-    large-fine (rec b) (xs b) (ord b .flag) (passed (from2 (from3 c))) (rw (c .before .before .largest .ensures) at (c .if3 .left))
+    large-fine (rec b) (xs b) (ord b .form) (passed (from2 (from3 c))) (rw (c .before .before .largest .ensures) at (c .if3 .left))
 
 -- 11
 abbrev fromE : tie.After-entry-count → tie.After-enum-told
@@ -143,7 +143,7 @@ returns-4 : tie.Need-returns-4
 returns-4 c =
     let p = c .before .before .before in
     let b = fromP (from2 p) in
-    let t = large-progress (rec b) (xs b) (ord b .flag) (rw (c .before .before .largest .ensures) at (c .if3 .taken)) in
+    let t = large-progress (rec b) (xs b) (ord b .form) (rw (c .before .before .largest .ensures) at (c .if3 .taken)) in
     rw (← behind (from2 p)) (rw (identity (fromS (p .before)), sized p, t))
 
 entry-count-requires : tie.Need-entry-count-requires

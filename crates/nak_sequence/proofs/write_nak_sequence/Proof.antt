@@ -39,7 +39,7 @@ abbrev xs : tie.After-sequence-checks → List ℕ
 xs b = b .before .before .before .args .list .now
 
 abbrev ord : tie.After-sequence-checks → Order
-ord b = let a = b .before .before .before .args in order (a .identity) (a .flag) (a .largest) (a .cursor) (a .budget)
+ord b = let a = b .before .before .before .args in order (a .identity) (a .form) (a .largest) (a .cursor) (a .budget)
 
 abbrev buf : tie.After-sequence-checks → List ℕ
 buf b = b .before .before .before .args .buf .now
@@ -83,7 +83,7 @@ low c = omega (arith, each c, each-low (ord (fromP (fromK c))) (checks (fromK c)
 high : (c : tie.After-per-pdu) → c .per-pdu .result ≤ largestPdu
 high c =
     let o = ord (fromP (fromK c)) in
-    omega (arith, each c, per-high (o .flag) (o .identity) (o .largest), small-size o (checks (fromK c) .size))
+    omega (arith, each c, per-high (o .form) (o .identity) (o .largest), small-size o (checks (fromK c) .size))
 
 -- E
 abbrev fromE : tie.After-entry-count → tie.After-enum-told
@@ -109,7 +109,7 @@ pdus c =
 
 -- the PDUs that are asked for, and their room
 abbrev asking : tie.After-smaller → Asking
-asking c = let o = ord (fromP (fromN c)) in askingFor (rec (fromP (fromN c))) (xs (fromP (fromN c))) (o .flag) (o .identity) (c .before .before .per-pdu .result)
+asking c = let o = ord (fromP (fromN c)) in askingFor (rec (fromP (fromN c))) (xs (fromP (fromN c))) (o .form) (o .identity) (c .before .before .per-pdu .result)
 
 room : (c : tie.After-smaller) → length (octetsOf (naks (asking c) (ord (fromP (fromN c)) .cursor) (c .smaller .result))) ≤ length (buf (fromP (fromN c)))
 room c =
@@ -127,7 +127,7 @@ octets : (c : tie.After-smaller) → octetsOf (naks (asking c) (ord (fromP (from
 octets c =
     let o = ord (fromP (fromN c)) in
     let b = fromP (fromN c) in
-    ap₂ (λ (k m : ℕ). octetsOf (naks (askingFor (rec b) (xs b) (o .flag) (o .identity) k) (o .cursor) m)) (each (c .before .before)) (pdus c)
+    ap₂ (λ (k m : ℕ). octetsOf (naks (askingFor (rec b) (xs b) (o .form) (o .identity) k) (o .cursor) m)) (each (c .before .before)) (pdus c)
 
 -- the new cursor fits
 steps : (c : tie.After-smaller) → ord (fromP (fromN c)) .budget * c .before .before .per-pdu .result ≤ largestBudget * largestPdu

@@ -11,8 +11,8 @@ record-in-requires c κs = search needs
 identity-in-requires : tie.Need-identity-in-requires
 identity-in-requires c κs = search needs
 
-flag-in-requires : tie.Need-flag-in-requires
-flag-in-requires c κs = search needs
+form-in-requires : tie.Need-form-in-requires
+form-in-requires c κs = search needs
 
 write-nak-sequence-requires : tie.Need-write-nak-sequence-requires
 write-nak-sequence-requires c κs = search needs
@@ -27,9 +27,9 @@ returns : tie.Need-returns
 returns c =
     let own = c .before .before .before .before .before .before .before .record-in .ensures in
     let asking = c .before .before .before .before .before .before .identity-in .ensures in
-    let flag = c .before .before .before .before .before .flag-in .ensures in
+    let form = c .before .before .before .before .before .form-in .ensures in
     let said = c .before .before .before .write-nak-sequence .ensures in
-    (c .of-sequence .ensures ∙ ap answerOf (rw (own, asking, flag) at (said .0)), rw (own, asking, flag) at (said .1))
+    (c .of-sequence .ensures ∙ ap answerOf (rw (own, asking, form) at (said .0)), rw (own, asking, form) at (said .1))
 
 pub pusmarke-nak-sequence-spec : {M : Type 1} → statement M
 pusmarke-nak-sequence-spec =
@@ -37,7 +37,7 @@ pusmarke-nak-sequence-spec =
     (tie.spec
     record-in-requires
     identity-in-requires
-    flag-in-requires
+    form-in-requires
     write-nak-sequence-requires
     of-sequence-requires
     same-length

@@ -27,7 +27,7 @@ mul-result-2 : tie.Need-mul-result-2
 mul-result-2 c = search needs
 
 div-result : tie.Need-div-result
-div-result c = omega (arith, c .field-length .ensures, field-low (c .before .before .args .flag))
+div-result c = omega (arith, c .field-length .ensures, field-low (c .before .before .args .form .flag))
 
 returns : tie.Need-returns
 returns c = rw (c .before .header-length .ensures, c .field-length .ensures)
