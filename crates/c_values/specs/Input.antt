@@ -8,6 +8,7 @@ use Rattle.octets.specs.declared.LargeFileFlag.{LargeFileFlag}
 use Rattle.octets.specs.declared.LargeFileFlag.the-variants.{Normal, Large}
 use Rattle.segment_store.specs.declared.Store.{Store}
 use Rattle.reception.specs.declared.Reception.{Reception}
+use Rattle.nak.specs.declared.Form.{Form}
 use Rattle.nak.specs.declared.Identity.{Identity}
 use Rattle.c_values.specs.declared.PusmarkeReception.{PusmarkeReception}
 use Rattle.c_values.specs.declared.PusmarkeIdentity.{PusmarkeIdentity}
@@ -21,6 +22,10 @@ widthIn narrow = cond (isSet narrow) Narrow Wide
 
 abbrev pub flagIn : ℕ → LargeFileFlag
 flagIn large = cond (isSet large) Large Normal
+
+-- The form of a PDU, by the mark of its flag.
+abbrev pub formIn : ℕ → Form
+formIn large = record { flag = flagIn large }
 
 -- The store with this count and width.
 abbrev pub storeOf : ℕ → ℕ → Store

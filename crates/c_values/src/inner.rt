@@ -1,9 +1,10 @@
 // Inner: C's numbers read as the calls' types, and marks.
 ghost use mathlib.Core.Path.{_≡_};
-ghost use Rattle.c_values.specs.Input.{isSet, widthIn, flagIn, storeOf, recordIn, identityIn};
+ghost use Rattle.c_values.specs.Input.{isSet, widthIn, flagIn, formIn, storeOf, recordIn, identityIn};
 ghost use Rattle.c_values.specs.Output.{markOf};
 use crate::PusmarkeIdentity;
 use crate::PusmarkeReception;
+use nak::Form;
 use nak::Identity;
 use octets::LargeFileFlag;
 use ranges::Width;
@@ -40,6 +41,14 @@ pub fn flag_in(large: u64) -> LargeFileFlag
     } else {
         LargeFileFlag::Normal
     }
+}
+
+// The form of a PDU, whose flag is all that C hands over of it.
+pub fn form_in(large: u64) -> Form
+    ensures { λ r. ⌜ r ≡ formIn large ⌝ }
+{
+    let flag = flag_in(large);
+    Form { flag }
 }
 
 pub fn store_of(count: usize, narrow: u64) -> Store

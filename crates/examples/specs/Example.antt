@@ -13,10 +13,11 @@ use Rattle.segment_store.specs.Add.{addOutcome, addList}
 use Rattle.segment_store.specs.Remove.{removeOutcome, removeList}
 use Rattle.segment_store.specs.Coalesce.{coalesceOutcome, coalesceList}
 use Rattle.reception.specs.History.{Event, State, fresh, outcome, step, run}
+use Rattle.nak.specs.declared.Form.{Form}
 use Rattle.nak.specs.declared.Identity.{Identity}
 use Rattle.nak.specs.Pdu.{Nak}
-use Rattle.nak_sequence.specs.Entries.{Asking, asking, naks}
-use Rattle.nak_sequence.specs.Sequence.{order, pduCount}
+use Rattle.sequence.specs.Entries.{Asking, asking, naks}
+use Rattle.sequence.specs.Sequence.{order, pduCount}
 
 pub data Example : Type 0 where
   -- A call on a store of this width and capacity that holds these ranges.
@@ -57,9 +58,13 @@ scopes (n ∷ ns) = n .scope .start ∷ n .scope .end ∷ scopes ns
 abbrev pub anyIdentity : Identity
 anyIdentity = record { «entity_length» = 1; «number_length» = 1; source = 1; number = 7; destination = 2 }
 
+-- The large file flag normal; no scope depends on it.
+abbrev pub anyForm : Form
+anyForm = record { flag = Normal }
+
 -- The PDUs of a call from cursor 0 on with a budget of 16; the largest PDU has its say in the number of requests alone.
 abbrev pub sentBy : Asking → List Nak
-sentBy a = naks a 0 (pduCount a (order anyIdentity Normal 0 0 16))
+sentBy a = naks a 0 (pduCount a (order anyIdentity anyForm 0 0 16))
 
 abbrev pub result : Example → Came
 result (Add w cap rs a b) = came (addOutcome (holding cap rs) (storeOf w rs) a b ∷ []) (addList (holding cap rs) (storeOf w rs) a b) 0
@@ -67,4 +72,4 @@ result (Remove w cap rs a b) = came (removeOutcome (holding cap rs) (storeOf w r
 result (Coalesce w cap rs) = came (coalesceOutcome (holding cap rs) (storeOf w rs) ∷ []) (coalesceList (holding cap rs) (storeOf w rs)) 0
 result (Events cap es) =
     came (outcomes (fresh Wide (holding cap [])) es) (run (fresh Wide (holding cap [])) es .list) (run (fresh Wide (holding cap [])) es .rec .progress)
-result (Sequence k rs p) = came [] (scopes (sentBy (asking Normal anyIdentity p rs k))) p
+result (Sequence k rs p) = came [] (scopes (sentBy (asking anyForm anyIdentity p rs k))) p

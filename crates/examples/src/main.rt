@@ -4,14 +4,15 @@ use io::print_decimal;
 use io::print_hex;
 use io::write_all;
 use libc::STDOUT_FILENO;
+use nak::Form;
 use nak::Identity;
 use nak::writer::WriteAnswer;
 use nak_parser::Step;
-use nak_sequence::SequenceAnswer;
 use octets::LargeFileFlag;
 use outcomes::Refusal;
 use ranges::Width;
 use reception::Reception;
+use sequence::SequenceAnswer;
 
 fn space() {
     write_all(STDOUT_FILENO, b" ");
@@ -50,11 +51,18 @@ fn example_identity() -> Identity {
     }
 }
 
+// Numbers of four octets.
+fn normal_form() -> Form {
+    Form {
+        flag: LargeFileFlag::Normal,
+    }
+}
+
 // Writes the example's PDU into the buffer, and shows the buffer, or the refusal.
 fn show_write(buf: &mut [u8]) {
     let requests: [u64; 4] = [0, 0, 100, 200];
     let identity = example_identity();
-    let answer = nak::writer::write(identity, LargeFileFlag::Normal, 0, 1000, &requests, buf);
+    let answer = nak::writer::write(identity, normal_form(), 0, 1000, &requests, buf);
     if let WriteAnswer::Refused(r) = answer {
         if let Refusal::BufferSizeMissmatch(needed, given) = r {
             write_all(STDOUT_FILENO, b"refused 6");
@@ -109,7 +117,8 @@ fn show_read(packet: &[u8]) {
         return;
     }
     let identity = parsed.identity;
-    let flag = parsed.flag;
+    let form = parsed.form;
+    let flag = form.flag;
     write_all(STDOUT_FILENO, b"nak");
     show_number(identity.entity_length as u64);
     show_number(identity.number_length as u64);
@@ -165,7 +174,7 @@ fn write_sequence(largest: usize, buf: &mut [u8]) {
         rec,
         &list,
         identity,
-        LargeFileFlag::Normal,
+        normal_form(),
         largest,
         0,
         16,

@@ -106,7 +106,7 @@ pub record NakFine (n : Nak) : Type 0 where
   pub identity : isBadIdentity (n .identity) ≡ false
   pub scope : n .scope .start ≤ n .scope .end
   pub requests : requestsOutcome (n .requests) ≡ accepted []
-  pub numbers : anyAbove (largestOf (n .flag)) (numbersOf n) ≡ false
+  pub numbers : anyAbove (largestOf (n .form .flag)) (numbersOf n) ≡ false
   pub size : length (pdu n) ≤ largestPdu
 
 none-nak : (n : Nak) → NakFine n → NoneOf (nakChecks n)
@@ -171,7 +171,7 @@ write-passed xs n buf f = rw (fine-write xs n (length buf) f) (refl, refl)
 -- the checks of writing behind the requests: 7, 14, 6
 abbrev pub lastChecks : Nak → ℕ → List Check
 lastChecks n given =
-    (anyAbove (largestOf (n .flag)) (numbersOf n), refusal.LargeSegmentForNormalFileSize)
+    (anyAbove (largestOf (n .form .flag)) (numbersOf n), refusal.LargeSegmentForNormalFileSize)
     ∷ (ltb largestPdu (length (pdu n)), refusal.PduSize)
     ∷ (not (eqb given (length (pdu n))), refusal.BufferSizeMissmatch (length (pdu n)) given)
     ∷ []

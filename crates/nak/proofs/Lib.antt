@@ -1,6 +1,7 @@
 pub mod Flat
 pub mod Requests
 pub mod Parts
+pub mod Room
 pub mod Puts
 pub mod Checks
 pub mod Injective

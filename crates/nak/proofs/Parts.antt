@@ -1,7 +1,7 @@
 -- The parts of a PDU, and their lengths.
 use mathlib.Core.Path.{_≡_, refl, ap, _∙_}
 use mathlib.Core.Bool.{Bool, true}
-use mathlib.Core.List.{List, _∷_, _++_}
+use mathlib.Core.List.{List, _∷_, _++_, append-nil}
 use Prim.Native.Nat.{ℕ, suc, _+_, _*_, _≤_}
 use native.Mathlib.Nat.{mul-add, mul-assoc, mul-comm}
 use native.Mathlib.Omega.{arith}
@@ -15,12 +15,13 @@ use Rattle.octets.specs.Flag.{fieldLength}
 use Rattle.octets.specs.declared.LargeFileFlag.{LargeFileFlag}
 use Rattle.octets.specs.declared.LargeFileFlag.the-variants.{Normal, Large}
 use Rattle.octets.proofs.Fields.{length-field, length-fields}
+use Rattle.nak.specs.declared.Form.{Form}
 use Rattle.nak.specs.declared.Identity.{Identity}
-use Rattle.nak.specs.Pdu.{Nak, headerOctets, identityOctets, dataOctets, dataField, header, pdu, headerLength, pduLength}
+use Rattle.nak.specs.Pdu.{Nak, headerOctets, identityOctets, dataOctets, dataField, header, front, pdu, headerLength, pduLength}
 use Rattle.nak.specs.Inner.{asked, pairsFrom, entries}
 use Rattle.nak.proofs.Flat.{flat-pairs}
 
-pub length-header : (g : LargeFileFlag) (i q n : ℕ) → length (headerOctets g i q n) ≡ 4
+pub length-header : (g : Form) (i q n : ℕ) → length (headerOctets g i q n) ≡ 4
 unfolding headerOctets
 length-header g i q n = refl
 
@@ -35,13 +36,17 @@ pub length-data : (f : ℕ) (s : Range) (rs : List Range) → length (dataOctets
 unfolding dataOctets
 length-data f s rs = ap suc (length-fields f (s .start ∷ s .end ∷ flat rs)) ∙ omega arith
 
-pub length-pdu : (n : Nak) → length (pdu n) ≡ headerLength (n .identity .«entity_length») (n .identity .«number_length») + length (dataField n)
+-- nothing stands behind the data field
+pub pdu-front : (n : Nak) → pdu n ≡ front n
 unfolding pdu
+pdu-front n = append-nil (front n)
+
+pub length-pdu : (n : Nak) → length (pdu n) ≡ headerLength (n .identity .«entity_length») (n .identity .«number_length») + length (dataField n)
 length-pdu n =
     let d = n .identity in
-    let h = length-header (n .flag) (d .«entity_length») (d .«number_length») (length (dataField n)) in
+    let h = length-header (n .form) (d .«entity_length») (d .«number_length») (length (dataField n)) in
     let e = length-identity d in
-    rw (length-append (header n), length-append (identityOctets d)) (omega arith)
+    rw (pdu-front n, length-append (header n), length-append (identityOctets d)) (omega arith)
 
 -- the flat list of some of its pairs
 pub flat-from : (xs : List ℕ) (first count : ℕ) → 2 * first + 2 * count ≤ length xs → flat (pairsFrom xs first count) ≡ take (2 * count) (drop (2 * first) xs)
@@ -80,11 +85,11 @@ f-high Normal m e h = rw e (omega arith)
 f-high Large m e h = rw e (omega arith)
 
 -- the length of a PDU, by how many numbers its requests have
-pub pdu-length : (n : Nak) → pduLength (n .flag) (n .identity) (length (flat (n .requests))) ≡ length (pdu n)
-pdu-length n = rw (length-pdu n, length-data (fieldLength (n .flag)) (n .scope) (n .requests))
+pub pdu-length : (n : Nak) → pduLength (n .form) (n .identity) (length (flat (n .requests))) ≡ length (pdu n)
+pdu-length n = rw (length-pdu n, length-data (fieldLength (n .form .flag)) (n .scope) (n .requests))
 
 -- the PDU's length by its requests: H + 1 + 2F for the scope, and 2F for each request
-pub length-of-pdu : (n : Nak) → length (pdu n) ≡ headerLength (n .identity .«entity_length») (n .identity .«number_length») + 1 + 2 * fieldLength (n .flag) + 2 * fieldLength (n .flag) * length (n .requests)
+pub length-of-pdu : (n : Nak) → length (pdu n) ≡ headerLength (n .identity .«entity_length») (n .identity .«number_length») + 1 + 2 * fieldLength (n .form .flag) + 2 * fieldLength (n .form .flag) * length (n .requests)
 length-of-pdu n =
-    let f = fieldLength (n .flag) in
+    let f = fieldLength (n .form .flag) in
     length-pdu n ∙ rw (length-data f (n .scope) (n .requests), length-flat (n .requests), mul-add f 2, ← mul-assoc f 2, mul-comm f 2) (omega arith)

@@ -12,18 +12,19 @@ use Rattle.octets.specs.declared.LargeFileFlag.{LargeFileFlag}
 use Rattle.octets.specs.declared.LargeFileFlag.the-variants.{Normal, Large}
 use Rattle.octets.proofs.Fields.{length-field, fields-append}
 use Rattle.octets.proofs.Over.{over-then}
+use Rattle.nak.specs.declared.Form.{Form}
 use Rattle.nak.specs.declared.Identity.{Identity}
 use Rattle.nak.specs.Header.{flagBit, octet0, octet3}
 use Rattle.nak.specs.Pdu.{Nak, nakCode, headerOctets, identityOctets, dataOctets, dataField, pdu}
 use Rattle.nak.specs.Inner.{asked, entries}
-use Rattle.nak.proofs.Parts.{length-header, length-identity, flat-entries}
+use Rattle.nak.proofs.Parts.{length-header, length-identity, pdu-front, flat-entries}
 
 pub flag-low : (g : LargeFileFlag) → flagBit g ≤ 1
 flag-low Normal = omega arith
 flag-low Large = omega arith
 
 pub header-puts :
-    (xs : List ℕ) (at : ℕ) (g : LargeFileFlag) (i q len : ℕ) {v w o : ℕ} {ys zs ws : List ℕ}
+    (xs : List ℕ) (at : ℕ) (g : Form) (i q len : ℕ) {v w o : ℕ} {ys zs ws : List ℕ}
     → v ≡ octet0 g
     → w ≡ len
     → o ≡ octet3 i q
@@ -99,19 +100,18 @@ pub pdu-puts :
     (xs : List ℕ) (at : ℕ) (n : Nak) {len place : ℕ} {ys zs ws : List ℕ}
     → len ≡ length (dataField n)
     → place ≡ at + 4 + 2 * (n .identity .«entity_length») + n .identity .«number_length»
-    → ys ≡ withOctets xs at (headerOctets (n .flag) (n .identity .«entity_length») (n .identity .«number_length») len)
+    → ys ≡ withOctets xs at (headerOctets (n .form) (n .identity .«entity_length») (n .identity .«number_length») len)
     → zs ≡ withOctets ys (at + 4) (identityOctets (n .identity))
     → ws ≡ withOctets zs place (dataField n)
     → place ≤ length xs
     → ws ≡ withOctets xs at (pdu n)
-unfolding pdu
 pdu-puts xs at n {len} {place} a b e f h k =
     let i = n .identity .«entity_length» in
     let q = n .identity .«number_length» in
-    let hd = headerOctets (n .flag) i q len in
+    let hd = headerOctets (n .form) i q len in
     let id = identityOctets (n .identity) in
-    let lh : length hd ≡ 4 = length-header (n .flag) i q len in
+    let lh : length hd ≡ 4 = length-header (n .form) i q len in
     let li = length-identity (n .identity) in
     let l : length (hd ++ id) ≡ 4 + (2 * i + q) = length-append hd id ∙ omega arith in
     let t = over-then xs at place (hd ++ id) (dataField n) (over-then xs at (at + 4) hd id e f (omega arith) (omega arith)) h (omega arith) (omega arith) in
-    t ∙ rw (a, append-assoc (headerOctets (n .flag) i q (length (dataField n))))
+    t ∙ rw (pdu-front n, a, append-assoc (headerOctets (n .form) i q (length (dataField n))))

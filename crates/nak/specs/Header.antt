@@ -4,6 +4,7 @@ use mathlib.Core.Bool.{Bool, _||_, not, cond}
 use lib.Dec.{eqb}
 use Rattle.octets.specs.declared.LargeFileFlag.{LargeFileFlag}
 use Rattle.octets.specs.declared.LargeFileFlag.the-variants.{Normal, Large}
+use Rattle.nak.specs.declared.Form.{Form}
 
 -- Octet 0 from the top: version 3 bits (001), type 0, direction 1, mode 0, CRC flag 0; the lowest bit is the large file flag.
 abbrev pub fixed0 : ℕ
@@ -30,9 +31,9 @@ abbrev pub flagBit : LargeFileFlag → ℕ
 flagBit Normal = 0
 flagBit Large = 1
 
--- Octet 0 of a PDU with this flag.
-abbrev pub octet0 : LargeFileFlag → ℕ
-octet0 g = fixed0 + flagBit g
+-- Octet 0 of a PDU of this form.
+abbrev pub octet0 : Form → ℕ
+octet0 g = fixed0 + flagBit (g .flag)
 
 -- Octet 3 of a PDU: entity identifier length less 1 (3 bits), sequence number length less 1 (3 bits).
 abbrev pub octet3 : ℕ → ℕ → ℕ
@@ -41,6 +42,10 @@ octet3 i q = fixed3 + (i - 1) * 16 + (q - 1)
 -- The flag that octet 0 says.
 abbrev pub flagOf : ℕ → LargeFileFlag
 flagOf o0 = cond (eqb (o0 % 2) 0) Normal Large
+
+-- The form that octet 0 says.
+abbrev pub formOf : ℕ → Form
+formOf o0 = record { flag = flagOf o0 }
 
 -- The entity identifier length and the sequence number length that octet 3 says.
 abbrev pub entityLengthOf : ℕ → ℕ

@@ -46,7 +46,7 @@ nakChecks n =
     (isBadIdentity (n .identity), refusal.BadIdentity)
     ∷ (ltb (n .scope .end) (n .scope .start), refusal.ScopeReversed)
     ∷ requestsChecks (n .requests)
-    ++ ((anyAbove (largestOf (n .flag)) (numbersOf n), refusal.LargeSegmentForNormalFileSize) ∷ (ltb largestPdu (length (pdu n)), refusal.PduSize) ∷ [])
+    ++ ((anyAbove (largestOf (n .form .flag)) (numbersOf n), refusal.LargeSegmentForNormalFileSize) ∷ (ltb largestPdu (length (pdu n)), refusal.PduSize) ∷ [])
 
 unfoldable pub nakOutcome : Nak → Outcome
 nakOutcome n = firstOf (nakChecks n) (accepted [])

@@ -1,4 +1,5 @@
 // Writing one PDU.
+use crate::Form;
 use crate::Identity;
 use crate::LARGEST_PDU;
 use crate::inner::bad_identity;
@@ -7,7 +8,6 @@ use crate::inner::requests::any_number_above;
 use crate::inner::requests::bad_list;
 use crate::inner::requests::check_requests;
 use crate::inner::write_at;
-use octets::LargeFileFlag;
 use outcomes::Refusal;
 use outcomes::Verdict;
 ghost use mathlib.Core.Path.{_≡_};
@@ -28,13 +28,13 @@ pub enum WriteAnswer {
 // The checks of writing into a buffer of `given` octets.
 pub fn write_checks(
     identity: Identity,
-    flag: LargeFileFlag,
+    form: Form,
     start: u64,
     end: u64,
     requests: &[u64],
     given: usize,
 ) -> Verdict
-    ensures { λ r. ⌜ verdictCase r ≡ firstOf (writeChecks (now (requests .entry)) (saying flag identity start end (pairs (now (requests .entry)))) given) (accepted []) ⌝ }
+    ensures { λ r. ⌜ verdictCase r ≡ firstOf (writeChecks (now (requests .entry)) (saying form identity start end (pairs (now (requests .entry)))) given) (accepted []) ⌝ }
 {
     if bad_list(requests) {
         return Verdict::Refused(Refusal::BadStore);
@@ -49,10 +49,10 @@ pub fn write_checks(
     if let Verdict::Refused(r) = found {
         return Verdict::Refused(r);
     }
-    if any_number_above(flag.largest(), start, end, requests) {
+    if any_number_above(form.largest(), start, end, requests) {
         return Verdict::Refused(Refusal::LargeSegmentForNormalFileSize);
     }
-    let total = pdu_length(identity, flag, requests.len());
+    let total = pdu_length(identity, form, requests.len());
     if LARGEST_PDU < total {
         return Verdict::Refused(Refusal::PduSize);
     }
@@ -62,19 +62,19 @@ pub fn write_checks(
     Verdict::Passed
 }
 
-// Writes the NAK PDU of this identity, flag, scope (start and end) and list of requests, a flat list of pairs read to its end.
+// Writes the NAK PDU of this identity, form, scope (start and end) and list of requests, a flat list of pairs read to its end.
 pub fn write(
     identity: Identity,
-    flag: LargeFileFlag,
+    form: Form,
     start: u64,
     end: u64,
     requests: &[u64],
     buf: &mut [u8],
 ) -> WriteAnswer
-    ensures { λ r. ⌜ writeCase r ≡ writeOutcome (now (requests .entry)) (saying flag identity start end (pairs (now (requests .entry)))) (length (now (buf .entry))) ⌝ }
-    ensures { λ r. ⌜ now (buf .exit) ≡ written (now (requests .entry)) (saying flag identity start end (pairs (now (requests .entry)))) (now (buf .entry)) ⌝ }
+    ensures { λ r. ⌜ writeCase r ≡ writeOutcome (now (requests .entry)) (saying form identity start end (pairs (now (requests .entry)))) (length (now (buf .entry))) ⌝ }
+    ensures { λ r. ⌜ now (buf .exit) ≡ written (now (requests .entry)) (saying form identity start end (pairs (now (requests .entry)))) (now (buf .entry)) ⌝ }
 {
-    let found = write_checks(identity, flag, start, end, requests, buf.len());
+    let found = write_checks(identity, form, start, end, requests, buf.len());
     if let Verdict::Refused(r) = found {
         return WriteAnswer::Refused(r);
     }
@@ -83,7 +83,7 @@ pub fn write(
         buf,
         0,
         identity,
-        flag,
+        form,
         start,
         end,
         false,

@@ -19,12 +19,13 @@ use Rattle.octets.specs.declared.LargeFileFlag.{LargeFileFlag}
 use Rattle.octets.specs.declared.LargeFileFlag.the-variants.{Normal, Large}
 use Rattle.octets.proofs.Fields.{length-field, got-put}
 use Rattle.octets.proofs.Largest.{largest-fits}
-use Rattle.nak.specs.Header.{wrongFixed, octet0, octet3, flagOf}
+use Rattle.nak.specs.declared.Form.{Form}
+use Rattle.nak.specs.Header.{wrongFixed, fixed0, flagBit, octet0, octet3, flagOf, formOf}
 use Rattle.nak.specs.Pdu.{Nak, nakCode, headerOctets, identityOctets, dataOctets, header, dataField, pdu}
 use Rattle.nak.specs.Inner.{GoodLengths}
-use Rattle.nak.proofs.Parts.{length-header, length-data, length-pdu}
+use Rattle.nak.proofs.Parts.{length-header, length-data, pdu-front, length-pdu}
 use Rattle.nak.proofs.Checks.{good-lengths, GoodNumbers, good-numbers, NakFine}
-use Rattle.nak_parser.specs.Parser.{octetAt, fieldAt, packetFlag, fieldLengthIn, entityLengthIn, numberLengthIn, headerLengthIn, lengthField, scopeAt, requestsAt, requestsIn, packetIdentity, scopeIn, packetRequests, nakIn, wrongLength, wrongData, readOutcome}
+use Rattle.nak_parser.specs.Parser.{octetAt, fieldAt, packetForm, fieldLengthIn, entityLengthIn, numberLengthIn, headerLengthIn, lengthField, scopeAt, requestsAt, requestsIn, packetIdentity, scopeIn, packetRequests, nakIn, wrongLength, wrongData, readOutcome}
 use Rattle.nak_parser.proofs.Reading.{header-is, Shape, shape-of, read-fine}
 
 -- the number of a field that stands behind x
@@ -59,9 +60,12 @@ requests-back g (r ∷ rs) h =
     let w : drop (2 * f) (s ++ (e ++ z)) ≡ z = rest-back (s ++ e) z (2 * f) (sym (append-assoc s e z)) l in
     rw (x, y, w, requests-back g rs (b .1))
 
-flag-of : (g : LargeFileFlag) → flagOf (octet0 g % 256) ≡ g
+flag-of : (f : LargeFileFlag) → flagOf ((fixed0 + flagBit f) % 256) ≡ f
 flag-of Normal = refl
 flag-of Large = refl
+
+form-of : (g : Form) → formOf (octet0 g % 256) ≡ g
+form-of g = let e = flag-of (g .flag) in rw e
 
 -- how many requests there are room for
 count-is : (g : LargeFileFlag) (h k : ℕ) → (h + (1 + fieldLength g * (2 + 2 * k)) - (h + 1 + 2 * fieldLength g)) / (2 * fieldLength g) ≡ k
@@ -76,22 +80,25 @@ room-is : (g : LargeFileFlag) (k : ℕ) → 1 + 2 * fieldLength g ≤ 1 + fieldL
 room-is Normal k = omega arith
 room-is Large k = omega arith
 
-fixed-right : (g : LargeFileFlag) (i q : ℕ) → 1 ≤ i → i ≤ 8 → 1 ≤ q → q ≤ 8 → wrongFixed (octet0 g % 256) (octet3 i q % 256) ≡ false
+fixed-right : (g : Form) (i q : ℕ) → 1 ≤ i → i ≤ 8 → 1 ≤ q → q ≤ 8 → wrongFixed (octet0 g % 256) (octet3 i q % 256) ≡ false
 unfolding wrongFixed
-fixed-right Normal i q a b c d = rw (eq-eqb (octet3 i q % 256 / 128 * 128 + octet3 i q % 256 / 8 % 2 * 8) 0 (omega arith))
-fixed-right Large i q a b c d = rw (eq-eqb (octet3 i q % 256 / 128 * 128 + octet3 i q % 256 / 8 % 2 * 8) 0 (omega arith))
+fixed-right g i q a b c d = go (g .flag)
+  where
+    go : (f : LargeFileFlag) → wrongFixed ((fixed0 + flagBit f) % 256) (octet3 i q % 256) ≡ false
+    go Normal = rw (eq-eqb (octet3 i q % 256 / 128 * 128 + octet3 i q % 256 / 8 % 2 * 8) 0 (omega arith))
+    go Large = rw (eq-eqb (octet3 i q % 256 / 128 * 128 + octet3 i q % 256 / 8 % 2 * 8) 0 (omega arith))
 
 module _ (n : Nak) (fine : NakFine n) where
   lengths : GoodLengths (n .identity)
   lengths = good-lengths (n .identity) (fine .identity)
 
-  pub flag-back : packetFlag (pdu n) ≡ n .flag
-  unfolding packetFlag pdu headerOctets
-  flag-back = flag-of (n .flag)
+  pub form-back : packetForm (pdu n) ≡ n .form
+  unfolding packetForm pdu headerOctets
+  form-back = form-of (n .form)
 
-  pub field-length-back : fieldLengthIn (pdu n) ≡ fieldLength (n .flag)
+  pub field-length-back : fieldLengthIn (pdu n) ≡ fieldLength (n .form .flag)
   unfolding fieldLengthIn
-  field-length-back = ap fieldLength flag-back
+  field-length-back = ap (λ (g : Form). fieldLength (g .flag)) form-back
 
   pub entity-length-back : entityLengthIn (pdu n) ≡ n .identity .«entity_length»
   unfolding entityLengthIn pdu headerOctets
@@ -122,17 +129,17 @@ module _ (n : Nak) (fine : NakFine n) where
   de = field (n .identity .«entity_length») (n .identity .destination)
 
   st : List ℕ
-  st = field (fieldLength (n .flag)) (n .scope .start)
+  st = field (fieldLength (n .form .flag)) (n .scope .start)
 
   en : List ℕ
-  en = field (fieldLength (n .flag)) (n .scope .end)
+  en = field (fieldLength (n .form .flag)) (n .scope .end)
 
   re : List ℕ
-  re = fields (fieldLength (n .flag)) (flat (n .requests))
+  re = fields (fieldLength (n .form .flag)) (flat (n .requests))
 
   whole : pdu n ≡ header n ++ (so ++ (nu ++ (de ++ (field 1 nakCode ++ (st ++ (en ++ re))))))
-  unfolding pdu identityOctets dataOctets so nu de st en re
-  whole = simp append-assoc
+  unfolding identityOctets dataOctets so nu de st en re
+  whole = pdu-front n ∙ simp append-assoc
 
   numbers : GoodNumbers (n .identity)
   numbers = good-numbers (n .identity) (fine .identity)
@@ -149,17 +156,17 @@ module _ (n : Nak) (fine : NakFine n) where
   unfolding de
   length-de = length-field (n .identity .«entity_length») (n .identity .destination)
 
-  length-st : length st ≡ fieldLength (n .flag)
+  length-st : length st ≡ fieldLength (n .form .flag)
   unfolding st
-  length-st = length-field (fieldLength (n .flag)) (n .scope .start)
+  length-st = length-field (fieldLength (n .form .flag)) (n .scope .start)
 
-  length-en : length en ≡ fieldLength (n .flag)
+  length-en : length en ≡ fieldLength (n .form .flag)
   unfolding en
-  length-en = length-field (fieldLength (n .flag)) (n .scope .end)
+  length-en = length-field (fieldLength (n .form .flag)) (n .scope .end)
 
   -- what stands before each part, and how long it is
   before1 : length (header n ++ so) ≡ 4 + n .identity .«entity_length»
-  before1 = rw (length-append (header n), length-so, length-header (n .flag) _ _ _)
+  before1 = rw (length-append (header n), length-so, length-header (n .form) _ _ _)
 
   before2 : length (header n ++ so ++ nu) ≡ 4 + n .identity .«entity_length» + n .identity .«number_length»
   before2 = rw (length-append (header n ++ so), before1, length-nu)
@@ -170,15 +177,15 @@ module _ (n : Nak) (fine : NakFine n) where
   before4 : length (header n ++ so ++ nu ++ de ++ field 1 nakCode) ≡ headerLengthIn (pdu n) + 1
   before4 = rw (length-append (header n ++ so ++ nu ++ de), before3)
 
-  before5 : length (header n ++ so ++ nu ++ de ++ field 1 nakCode ++ st) ≡ headerLengthIn (pdu n) + 1 + fieldLength (n .flag)
+  before5 : length (header n ++ so ++ nu ++ de ++ field 1 nakCode ++ st) ≡ headerLengthIn (pdu n) + 1 + fieldLength (n .form .flag)
   before5 = rw (length-append (header n ++ so ++ nu ++ de ++ field 1 nakCode), before4, length-st)
 
-  before6 : length (header n ++ so ++ nu ++ de ++ field 1 nakCode ++ st ++ en) ≡ headerLengthIn (pdu n) + 1 + 2 * fieldLength (n .flag)
+  before6 : length (header n ++ so ++ nu ++ de ++ field 1 nakCode ++ st ++ en) ≡ headerLengthIn (pdu n) + 1 + 2 * fieldLength (n .form .flag)
   before6 = rw (length-append (header n ++ so ++ nu ++ de ++ field 1 nakCode ++ st), before5, length-en) (omega arith)
 
   pub source-back : fieldAt (pdu n) 4 (n .identity .«entity_length») ≡ n .identity .source
   unfolding so
-  source-back = field-back (header n) (nu ++ (de ++ (field 1 nakCode ++ (st ++ (en ++ re))))) 4 _ _ whole (length-header (n .flag) _ _ _) (numbers .source)
+  source-back = field-back (header n) (nu ++ (de ++ (field 1 nakCode ++ (st ++ (en ++ re))))) 4 _ _ whole (length-header (n .form) _ _ _) (numbers .source)
 
   pub number-back : fieldAt (pdu n) (4 + n .identity .«entity_length») (n .identity .«number_length») ≡ n .identity .number
   unfolding nu
@@ -197,49 +204,49 @@ module _ (n : Nak) (fine : NakFine n) where
       let e : pdu n ≡ header n ++ so ++ nu ++ de ++ nakCode ∷ (st ++ (en ++ re)) = whole ∙ simp append-assoc in
       ap (λ (l : List ℕ). getD l (headerLengthIn (pdu n)) 0) e ∙ getD-at (header n ++ so ++ nu ++ de) nakCode (st ++ (en ++ re)) 0 (headerLengthIn (pdu n)) before3
 
-  start-back : n .scope .start < 256 ^ fieldLength (n .flag) → fieldAt (pdu n) (headerLengthIn (pdu n) + 1) (fieldLength (n .flag)) ≡ n .scope .start
+  start-back : n .scope .start < 256 ^ fieldLength (n .form .flag) → fieldAt (pdu n) (headerLengthIn (pdu n) + 1) (fieldLength (n .form .flag)) ≡ n .scope .start
   unfolding st
   start-back h = field-back (header n ++ so ++ nu ++ de ++ field 1 nakCode) (en ++ re) _ _ _ (whole ∙ simp append-assoc) before4 h
 
-  end-back : n .scope .end < 256 ^ fieldLength (n .flag) → fieldAt (pdu n) (headerLengthIn (pdu n) + 1 + fieldLength (n .flag)) (fieldLength (n .flag)) ≡ n .scope .end
+  end-back : n .scope .end < 256 ^ fieldLength (n .form .flag) → fieldAt (pdu n) (headerLengthIn (pdu n) + 1 + fieldLength (n .form .flag)) (fieldLength (n .form .flag)) ≡ n .scope .end
   unfolding en
   end-back h = field-back (header n ++ so ++ nu ++ de ++ field 1 nakCode ++ st) re _ _ _ (whole ∙ simp append-assoc) before5 h
 
   pub scope-back : scopeIn (pdu n) ≡ n .scope
   unfolding scopeIn scopeAt
   scope-back =
-      let a = below-top (n .flag) (n .scope .start) (n .scope .end ∷ flat (n .requests)) (fine .numbers) in
-      let b = below-top (n .flag) (n .scope .end) (flat (n .requests)) (a .1) in
+      let a = below-top (n .form .flag) (n .scope .start) (n .scope .end ∷ flat (n .requests)) (fine .numbers) in
+      let b = below-top (n .form .flag) (n .scope .end) (flat (n .requests)) (a .1) in
       rw (field-length-back, start-back (a .0), end-back (b .0))
 
-  requests-at-back : requestsAt (pdu n) ≡ headerLengthIn (pdu n) + 1 + 2 * fieldLength (n .flag)
+  requests-at-back : requestsAt (pdu n) ≡ headerLengthIn (pdu n) + 1 + 2 * fieldLength (n .form .flag)
   unfolding requestsAt scopeAt
   requests-at-back = rw field-length-back
 
-  pub rest : drop (requestsAt (pdu n)) (pdu n) ≡ fields (fieldLength (n .flag)) (flat (n .requests))
+  pub rest : drop (requestsAt (pdu n)) (pdu n) ≡ fields (fieldLength (n .form .flag)) (flat (n .requests))
   unfolding re
   rest = rest-back (header n ++ so ++ nu ++ de ++ field 1 nakCode ++ st ++ en) re _ (whole ∙ simp append-assoc) (before6 ∙ sym requests-at-back)
 
-  data-length : length (dataField n) ≡ 1 + fieldLength (n .flag) * (2 + 2 * length (n .requests))
-  data-length = length-data (fieldLength (n .flag)) (n .scope) (n .requests) ∙ rw (length-flat (n .requests))
+  data-length : length (dataField n) ≡ 1 + fieldLength (n .form .flag) * (2 + 2 * length (n .requests))
+  data-length = length-data (fieldLength (n .form .flag)) (n .scope) (n .requests) ∙ rw (length-flat (n .requests))
 
-  total : length (pdu n) ≡ headerLengthIn (pdu n) + (1 + fieldLength (n .flag) * (2 + 2 * length (n .requests)))
+  total : length (pdu n) ≡ headerLengthIn (pdu n) + (1 + fieldLength (n .form .flag) * (2 + 2 * length (n .requests)))
   total = length-pdu n ∙ rw (header-length-back, data-length)
 
   pub requests-of-back : packetRequests (pdu n) ≡ n .requests
   unfolding packetRequests
   requests-of-back =
-      let a = below-top (n .flag) (n .scope .start) (n .scope .end ∷ flat (n .requests)) (fine .numbers) in
-      let b = below-top (n .flag) (n .scope .end) (flat (n .requests)) (a .1) in
-      rw (rest, requests-at-back, field-length-back, total, count-is (n .flag) (headerLengthIn (pdu n)) (length (n .requests))) (requests-back (n .flag) (n .requests) (b .1))
+      let a = below-top (n .form .flag) (n .scope .start) (n .scope .end ∷ flat (n .requests)) (fine .numbers) in
+      let b = below-top (n .form .flag) (n .scope .end) (flat (n .requests)) (a .1) in
+      rw (rest, requests-at-back, field-length-back, total, count-is (n .form .flag) (headerLengthIn (pdu n)) (length (n .requests))) (requests-back (n .form .flag) (n .requests) (b .1))
 
-  -- reading what was written gives back every field, the requests in order and the flag included
+  -- reading what was written gives back every field, the requests in order and the form included
   pub nak-back : nakIn (pdu n) ≡ n
-  nak-back = rw (flag-back, identity-back, scope-back, requests-of-back)
+  nak-back = rw (form-back, identity-back, scope-back, requests-of-back)
 
   fixed-back : wrongFixed (octetAt (pdu n) 0) (octetAt (pdu n) 3) ≡ false
   unfolding pdu headerOctets
-  fixed-back = let l = lengths in fixed-right (n .flag) _ _ (l .entity-low) (l .entity-high) (l .number-low) (l .number-high)
+  fixed-back = let l = lengths in fixed-right (n .form) _ _ (l .entity-low) (l .entity-high) (l .number-low) (l .number-high)
 
   right-length-back : wrongLength (pdu n) ≡ false
   unfolding wrongLength
@@ -251,7 +258,7 @@ module _ (n : Nak) (fine : NakFine n) where
 
   right-data-back : wrongData (pdu n) ≡ false
   unfolding wrongData
-  right-data-back = rw (length-field-back, data-length, field-length-back, le-ltb _ _ (room-is (n .flag) (length (n .requests))), whole-is (n .flag) (length (n .requests)))
+  right-data-back = rw (length-field-back, data-length, field-length-back, le-ltb _ _ (room-is (n .form .flag) (length (n .requests))), whole-is (n .form .flag) (length (n .requests)))
 
   pub shape-back : Shape (pdu n)
   shape-back =

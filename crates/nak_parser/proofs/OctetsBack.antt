@@ -17,10 +17,10 @@ use Rattle.octets.specs.Flag.{fieldLength}
 use Rattle.octets.specs.declared.LargeFileFlag.{LargeFileFlag}
 use Rattle.octets.specs.declared.LargeFileFlag.the-variants.{Normal, Large}
 use Rattle.octets.proofs.Fields.{put-got, number-below, octets-take, octets-drop}
-use Rattle.nak.specs.Header.{wrongFixed, fixed0, fixedBits0, fixedBits3, octet0, octet3, flagOf, entityLengthOf, numberLengthOf}
+use Rattle.nak.specs.Header.{wrongFixed, fixed0, fixedBits0, fixedBits3, octet0, octet3, formOf, entityLengthOf, numberLengthOf}
 use Rattle.nak.specs.Pdu.{nakCode, headerOctets, identityOctets, dataOctets, dataField, pdu}
-use Rattle.nak.proofs.Parts.{length-data}
-use Rattle.nak_parser.specs.Parser.{octetAt, fieldAt, packetFlag, fieldLengthIn, entityLengthIn, numberLengthIn, headerLengthIn, lengthField, scopeAt, requestsAt, requestsIn, packetIdentity, scopeIn, packetRequests, nakIn}
+use Rattle.nak.proofs.Parts.{length-data, pdu-front}
+use Rattle.nak_parser.specs.Parser.{octetAt, fieldAt, packetForm, fieldLengthIn, entityLengthIn, numberLengthIn, headerLengthIn, lengthField, scopeAt, requestsAt, requestsIn, packetIdentity, scopeIn, packetRequests, nakIn}
 use Rattle.nak_parser.proofs.Reading.{Read, header-is}
 
 -- an octet of octets is below 256
@@ -76,14 +76,14 @@ requests-forth f (suc k) os a h =
     let e = field-forth os f f (2 * f) a (omega arith) (omega arith) t in
     field-forth os 0 f f a (omega arith) (omega arith) e
 
-flag-forth : (o0 o3 : ℕ) → wrongFixed o0 o3 ≡ false → octet0 (flagOf o0) ≡ o0
+form-forth : (o0 o3 : ℕ) → wrongFixed o0 o3 ≡ false → octet0 (formOf o0) ≡ o0
 unfolding wrongFixed
-flag-forth o0 o3 e = go (eqb (o0 % 2) 0) refl
+form-forth o0 o3 e = go (eqb (o0 % 2) 0) refl
   where
     bits : o0 / 2 * 2 ≡ 40
     bits = eqb-true (fixedBits0 o0) fixed0 (not-false _ (or-false (not (eqb (fixedBits0 o0) fixed0)) _ e .0))
 
-    go : (t : Bool) → eqb (o0 % 2) 0 ≡ t → octet0 (flagOf o0) ≡ o0
+    go : (t : Bool) → eqb (o0 % 2) 0 ≡ t → octet0 (formOf o0) ≡ o0
     go true z = rw z (let k = eqb-true (o0 % 2) 0 z in omega (arith, bits))
     go false z = rw z (let k = eqb-false (o0 % 2) 0 z in omega (arith, bits))
 
@@ -106,7 +106,7 @@ room-forth Normal total h len a b c = omega arith
 room-forth Large total h len a b c = omega arith
 
 -- F of a packet is that of its flag
-pub f-is : (p : List ℕ) → fieldLengthIn p ≡ fieldLength (packetFlag p)
+pub f-is : (p : List ℕ) → fieldLengthIn p ≡ fieldLength (packetForm p .flag)
 unfolding fieldLengthIn
 f-is p = refl
 
@@ -118,7 +118,7 @@ requests-at p = refl
 pub requests-room : (p : List ℕ) → Read p → length p - requestsAt p ≡ (length p - requestsAt p) / (2 * fieldLengthIn p) * (2 * fieldLengthIn p)
 requests-room p r =
     let t = r .shape in
-    rw (requests-at p, f-is p) (room-forth (packetFlag p) (length p) (headerLengthIn p) (lengthField p) (t .total) (rw (f-is p) at (t .room)) (rw (f-is p) at (t .whole)))
+    rw (requests-at p, f-is p) (room-forth (packetForm p .flag) (length p) (headerLengthIn p) (lengthField p) (t .total) (rw (f-is p) at (t .room)) (rw (f-is p) at (t .whole)))
 
 module _ (p : List ℕ) (a : AllOctets p) (r : Read p) where
   scope-at : scopeAt p ≡ headerLengthIn p + 1
@@ -157,13 +157,13 @@ module _ (p : List ℕ) (a : AllOctets p) (r : Read p) where
   unfolding packetRequests
   data-length =
       let t = r .shape in
-      length-data (fieldLength (packetFlag p)) (scopeIn p) (packetRequests p)
+      length-data (fieldLength (packetForm p .flag)) (scopeIn p) (packetRequests p)
       ∙ rw (length-flat (packetRequests p), length-requests-in (fieldLengthIn p) ((length p - requestsAt p) / (2 * fieldLengthIn p)) (drop (requestsAt p) p), requests-at p, f-is p)
-      (count-forth (packetFlag p) (length p) (headerLengthIn p) (lengthField p) (t .total) (rw (f-is p) at (t .room)) (rw (f-is p) at (t .whole)))
+      (count-forth (packetForm p .flag) (length p) (headerLengthIn p) (lengthField p) (t .total) (rw (f-is p) at (t .room)) (rw (f-is p) at (t .whole)))
 
-  flag-is : octet0 (packetFlag p) ≡ octetAt p 0
-  unfolding packetFlag
-  flag-is = flag-forth (octetAt p 0) (octetAt p 3) (r .shape .fixed)
+  form-is : octet0 (packetForm p) ≡ octetAt p 0
+  unfolding packetForm
+  form-is = form-forth (octetAt p 0) (octetAt p 3) (r .shape .fixed)
 
   lengths-are : octet3 (entityLengthIn p) (numberLengthIn p) ≡ octetAt p 3
   unfolding entityLengthIn numberLengthIn
@@ -175,11 +175,11 @@ module _ (p : List ℕ) (a : AllOctets p) (r : Read p) where
 
   -- writing what was read gives back every octet: every accepted packet is the PDU of its fields
   pub pdu-forth : pdu (nakIn p) ≡ p
-  unfolding pdu headerOctets packetIdentity
+  unfolding headerOctets packetIdentity
   pdu-forth =
       let t = r .shape in
       let n = t .enough in
       let h3 = octet-forth p 3 4 (octet3 (entityLengthIn p) (numberLengthIn p)) a lengths-are refl n e0 in
       let h1 = field-forth p 1 2 3 a refl (omega arith) h3 in
-      let h0 = octet-forth p 0 1 (octet0 (packetFlag p)) a flag-is refl (omega arith) (ap (λ (os : List ℕ). os ++ (field 1 (octet3 (entityLengthIn p) (numberLengthIn p)) ++ (identityOctets (packetIdentity p) ++ dataField (nakIn p)))) length-is ∙ h1) in
-      h0
+      let h0 = octet-forth p 0 1 (octet0 (packetForm p)) a form-is refl (omega arith) (ap (λ (os : List ℕ). os ++ (field 1 (octet3 (entityLengthIn p) (numberLengthIn p)) ++ (identityOctets (packetIdentity p) ++ dataField (nakIn p)))) length-is ∙ h1) in
+      pdu-front (nakIn p) ∙ h0

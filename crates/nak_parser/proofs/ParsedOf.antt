@@ -10,25 +10,25 @@ use lib.Seq.{take-all}
 use borrow.Author.Tests.{eqb-true, eqb-false, ne-eqb, lt-ltb}
 use Rattle.outcomes.specs.Outcome.{accepted, lent}
 use Rattle.ranges.specs.Range.{Range, range}
-use Rattle.octets.specs.declared.LargeFileFlag.{LargeFileFlag}
+use Rattle.nak.specs.declared.Form.{Form}
 use Rattle.nak.specs.declared.Identity.{Identity}
 use Rattle.nak_parser.specs.declared.Parsed.{Parsed}
 use Rattle.outcomes.specs.declared.Refusal.the-variants as refusal
 use Rattle.outcomes.specs.Refusal.{refusing}
 use Rattle.outcomes.specs.declared.Refusal.{Refusal}
 use Rattle.outcomes.proofs.Refusals.{refuses}
-use Rattle.nak_parser.specs.Parser.{packetFlag, fieldLengthIn, packetIdentity, scopeIn, scopeAt, requestsAt, readOutcome, acceptedParsed, refusedParsed, parsedOf, requestsPart}
+use Rattle.nak_parser.specs.Parser.{packetForm, fieldLengthIn, packetIdentity, scopeIn, scopeAt, requestsAt, readOutcome, acceptedParsed, refusedParsed, parsedOf, requestsPart}
 use Rattle.nak_parser.proofs.Reading.{Read, read-of}
 
--- an accepted packet of this identity, flag and scope, its requests from here to there
-abbrev pub parsedWith : Identity → LargeFileFlag → Range → ℕ → ℕ → Parsed
+-- an accepted packet of this identity, form and scope, its requests from here to there
+abbrev pub parsedWith : Identity → Form → Range → ℕ → ℕ → Parsed
 parsedWith d g s from to =
     record {
       refusal = 0;
       start = 0;
       end = 0;
       identity = d;
-      flag = g;
+      form = g;
       «scope_start» = s .start;
       «scope_end» = s .end;
       from = from;
@@ -56,9 +56,9 @@ short p h = rw (lt-ltb (length p) 4 h)
 
 -- the values that the code finds are those of the definition
 pub is-parsed :
-    (p : List ℕ) {d : Identity} {g : LargeFileFlag} {a b from : ℕ}
+    (p : List ℕ) {d : Identity} {g : Form} {a b from : ℕ}
     → d ≡ packetIdentity p
-    → g ≡ packetFlag p
+    → g ≡ packetForm p
     → range a b ≡ scopeIn p
     → from ≡ requestsAt p
     → parsedWith d g (range a b) from (length p) ≡ acceptedParsed p

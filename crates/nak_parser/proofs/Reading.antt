@@ -15,9 +15,7 @@ use Rattle.outcomes.specs.Checks.{Check, firstOf, NoneOf}
 use Rattle.outcomes.specs.declared.Refusal.the-variants as refusal
 use Rattle.outcomes.proofs.FirstOf.{first-append, first-none, first-accepted}
 use Rattle.octets.specs.Octets.{number, AllOctets}
-use Rattle.octets.specs.Flag.{fieldLength}
-use Rattle.octets.specs.declared.LargeFileFlag.{LargeFileFlag}
-use Rattle.octets.specs.declared.LargeFileFlag.the-variants.{Normal, Large}
+use Rattle.nak.proofs.Room as room
 use Rattle.octets.proofs.Fields.{number-below, octets-take, octets-drop}
 use Rattle.nak.specs.declared.Identity.{Identity}
 use Rattle.nak.specs.Header.{wrongFixed}
@@ -26,7 +24,7 @@ use Rattle.nak.specs.Request.{requestsChecks, requestsOutcome}
 use Rattle.nak.specs.Writer.{largestPdu}
 use Rattle.nak.proofs.Requests.{requests-fine, fine-requests}
 use Rattle.nak.proofs.Checks.{none-append}
-use Rattle.nak_parser.specs.Parser.{octetAt, fieldAt, packetFlag, fieldLengthIn, entityLengthIn, numberLengthIn, headerLengthIn, lengthField}
+use Rattle.nak_parser.specs.Parser.{octetAt, fieldAt, packetForm, fieldLengthIn, entityLengthIn, numberLengthIn, headerLengthIn, lengthField}
 use Rattle.nak_parser.specs.Parser.{scopeAt, behindScope, requestsAt, requestsIn, packetIdentity, scopeIn, packetRequests, isWrongLength, wrongLength, isWrongData, wrongData, shapeChecks, readChecks, readOutcome}
 
 -- an identity of these lengths and numbers
@@ -69,19 +67,11 @@ module _ (p : List ℕ) where
   -- bounds
   pub field-low : 4 ≤ fieldLengthIn p
   unfolding fieldLengthIn
-  field-low = go (packetFlag p)
-    where
-      go : (g : LargeFileFlag) → 4 ≤ fieldLength g
-      go Normal = omega arith
-      go Large = omega arith
+  field-low = room.field-low (packetForm p .flag)
 
   pub field-high : fieldLengthIn p ≤ 8
   unfolding fieldLengthIn
-  field-high = go (packetFlag p)
-    where
-      go : (g : LargeFileFlag) → fieldLength g ≤ 8
-      go Normal = omega arith
-      go Large = omega arith
+  field-high = room.field-high (packetForm p .flag)
 
   pub entity-low : 1 ≤ entityLengthIn p
   unfolding entityLengthIn

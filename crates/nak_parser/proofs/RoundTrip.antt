@@ -22,7 +22,7 @@ use Rattle.nak.specs.Inner.{GoodLengths}
 use Rattle.nak.specs.Writer.{isBadList, numbersOf, nakOutcome, writeOutcome, written}
 use Rattle.nak.proofs.Checks.{GoodNumbers, not-bad-identity, NakFine, nak-of, fine-nak, fine-write, write-accepted}
 use Rattle.nak_parser.specs.declared.Parsed.{Parsed}
-use Rattle.nak_parser.specs.Parser.{requestsPart, acceptedParsed, Says, packetFlag, fieldLengthIn, entityLengthIn, numberLengthIn, headerLengthIn, scopeAt, requestsAt, requestsIn, packetIdentity, scopeIn, packetRequests, nakIn, readOutcome}
+use Rattle.nak_parser.specs.Parser.{requestsPart, acceptedParsed, Says, packetForm, fieldLengthIn, entityLengthIn, numberLengthIn, headerLengthIn, scopeAt, requestsAt, requestsIn, packetIdentity, scopeIn, packetRequests, nakIn, readOutcome}
 use Rattle.nak_parser.proofs.Reading.{Read, read-of, header-is, entity-low, entity-high, number-low, number-high}
 use Rattle.nak_parser.proofs.ParsedOf.{parsed-accepted}
 use Rattle.nak_parser.proofs.FieldsBack.{nak-back, read-back, rest}
@@ -46,7 +46,7 @@ parsed-says p n a e =
     record {
       refusal = rw h;
       identity = ap (λ (z : Parsed). z .identity) h ∙ ap (λ (z : Nak). z .identity) e;
-      flag = ap (λ (z : Parsed). z .flag) h ∙ ap (λ (z : Nak). z .flag) e;
+      form = ap (λ (z : Parsed). z .form) h ∙ ap (λ (z : Nak). z .form) e;
       scope-start = ap (λ (z : Parsed). z .«scope_start») h ∙ ap (λ (z : Nak). z .scope .start) e;
       scope-end = ap (λ (z : Parsed). z .«scope_end») h ∙ ap (λ (z : Nak). z .scope .end) e;
       requests = ap (λ (z : Nak). z .requests) e;
@@ -70,7 +70,7 @@ pdu-injective m n a b e =
     sym (nak-back m (nak-of m (ap (λ (o : Outcome). o .number) a))) ∙ ap nakIn e ∙ nak-back n (nak-of n (ap (λ (o : Outcome). o .number) b))
 
 -- The part of a PDU that is handed back as its requests holds them, start and end, F octets each.
-pub part-written : (n : Nak) → nakOutcome n ≡ accepted [] → requestsPart (pdu n) ≡ fields (fieldLength (n .flag)) (flat (n .requests))
+pub part-written : (n : Nak) → nakOutcome n ≡ accepted [] → requestsPart (pdu n) ≡ fields (fieldLength (n .form .flag)) (flat (n .requests))
 part-written n e = rw (pdu-accepted n e) (rest n (nak-of n (ap (λ (o : Outcome). o .number) e)))
 
 above-one : (g : LargeFileFlag) (v : ℕ) {f : ℕ} → f ≡ fieldLength g → v < 256 ^ f → ltb (largestOf g) v ≡ false
@@ -101,11 +101,11 @@ module _ (p : List ℕ) (a : AllOctets p) (r : Read p) where
         destination = part-low p (4 + entityLengthIn p + numberLengthIn p) (entityLengthIn p) a (omega arith);
       }
 
-  numbers-in : anyAbove (largestOf (packetFlag p)) (numbersOf (nakIn p)) ≡ false
+  numbers-in : anyAbove (largestOf (packetForm p .flag)) (numbersOf (nakIn p)) ≡ false
   unfolding scopeIn scopeAt packetRequests
   numbers-in =
       let t = r .shape in
-      let g = packetFlag p in
+      let g = packetForm p .flag in
       let x = above-one g (scopeIn p .start) (f-is p) (part-low p (headerLengthIn p + 1) (fieldLengthIn p) a (omega arith)) in
       let y = above-one g (scopeIn p .end) (f-is p) (part-low p (headerLengthIn p + 1 + fieldLengthIn p) (fieldLengthIn p) a (omega arith)) in
       let k = (length p - requestsAt p) / (2 * fieldLength g) in

@@ -12,12 +12,12 @@ use Rattle.outcomes.specs.Checks.{Check, firstOf}
 use Rattle.outcomes.specs.declared.Refusal.the-variants as refusal
 use Rattle.octets.specs.Octets.{number}
 use Rattle.octets.specs.Flag.{fieldLength}
-use Rattle.octets.specs.declared.LargeFileFlag.{LargeFileFlag}
 use Rattle.octets.specs.declared.LargeFileFlag.the-variants.{Normal}
+use Rattle.nak.specs.declared.Form.{Form}
 use Rattle.nak.specs.declared.Identity.{Identity}
 use Rattle.nak_parser.specs.declared.Parsed.{Parsed}
 use Rattle.nak_parser.specs.declared.inner.Header.{Header}
-use Rattle.nak.specs.Header.{wrongFixed, flagOf, entityLengthOf, numberLengthOf}
+use Rattle.nak.specs.Header.{wrongFixed, formOf, entityLengthOf, numberLengthOf}
 use Rattle.nak.specs.Pdu.{Nak, nakCode, headerLength}
 use Rattle.nak.specs.Request.{requestsChecks}
 use Rattle.nak.specs.Writer.{largestPdu}
@@ -30,13 +30,13 @@ octetAt p at = getD p at 0
 abbrev pub fieldAt : List ℕ → ℕ → ℕ → ℕ
 fieldAt p at f = number (take f (drop at p))
 
--- The large file flag of a packet.
-unfoldable pub packetFlag : List ℕ → LargeFileFlag
-packetFlag p = flagOf (octetAt p 0)
+-- The form of a packet.
+unfoldable pub packetForm : List ℕ → Form
+packetForm p = formOf (octetAt p 0)
 
--- F, by the flag.
+-- F, by the form.
 unfoldable pub fieldLengthIn : List ℕ → ℕ
-fieldLengthIn p = fieldLength (packetFlag p)
+fieldLengthIn p = fieldLength (packetForm p .flag)
 
 -- I and Q, in octet 3.
 unfoldable pub entityLengthIn : List ℕ → ℕ
@@ -57,7 +57,7 @@ lengthField p = fieldAt p 1 2
 abbrev pub headerIn : List ℕ → Header
 headerIn p =
     record {
-      flag = packetFlag p;
+      form = packetForm p;
       «entity_length» = entityLengthIn p;
       «number_length» = numberLengthIn p;
       length = headerLengthIn p;
@@ -102,7 +102,7 @@ packetRequests p = requestsIn (fieldLengthIn p) ((length p - requestsAt p) / (2 
 
 -- What a packet says.
 abbrev pub nakIn : List ℕ → Nak
-nakIn p = record { flag = packetFlag p; identity = packetIdentity p; scope = scopeIn p; requests = packetRequests p }
+nakIn p = record { form = packetForm p; identity = packetIdentity p; scope = scopeIn p; requests = packetRequests p }
 
 -- 16: packet not H plus the length field, or length field 0.
 abbrev pub isWrongLength : ℕ → ℕ → ℕ → Bool
@@ -149,7 +149,7 @@ refusedParsed o len =
       start = getD (o .values) 0 0;
       end = getD (o .values) 1 0;
       identity = record { «entity_length» = 0; «number_length» = 0; source = 0; number = 0; destination = 0 };
-      flag = Normal;
+      form = record { flag = Normal };
       «scope_start» = 0;
       «scope_end» = 0;
       from = 0;
@@ -165,7 +165,7 @@ acceptedParsed p =
       start = 0;
       end = 0;
       identity = packetIdentity p;
-      flag = packetFlag p;
+      form = packetForm p;
       «scope_start» = scopeIn p .start;
       «scope_end» = scopeIn p .end;
       from = requestsAt p;
@@ -185,7 +185,7 @@ parsedOf p = parsed (readOutcome p) p
 pub record Says (p : List ℕ) (n : Nak) : Type 0 where
   pub refusal : parsedOf p .refusal ≡ 0
   pub identity : parsedOf p .identity ≡ n .identity
-  pub flag : parsedOf p .flag ≡ n .flag
+  pub form : parsedOf p .form ≡ n .form
   pub scope-start : parsedOf p .«scope_start» ≡ n .scope .start
   pub scope-end : parsedOf p .«scope_end» ≡ n .scope .end
   pub requests : packetRequests p ≡ n .requests

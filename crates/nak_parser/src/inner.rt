@@ -1,4 +1,5 @@
 // Inner: not part of the public interface. Some of these have a `requires`, which their callers show.
+use nak::Form;
 use nak::inner::lengths::header_length;
 use nak::inner::requests::is_empty;
 use octets::LargeFileFlag;
@@ -13,7 +14,7 @@ ghost use denote.Ref.{ptr};
 ghost use Rattle.outcomes.specs.Outcome.{accepted, refused as outcomeOf};
 ghost use Rattle.outcomes.specs.Refusal.{refusing};
 ghost use Rattle.outcomes.specs.Checks.{firstOf, verdictCase};
-ghost use Rattle.nak.specs.Header.{wrongFixed, flagOf};
+ghost use Rattle.nak.specs.Header.{wrongFixed, flagOf, formOf};
 ghost use Rattle.nak.specs.Request.{requestsChecks};
 ghost use Rattle.nak_parser.specs.Parser.{headerIn, headerLengthIn, requestsIn, packetIdentity, isWrongLength, isWrongData, shapeChecks, refusedParsed};
 use crate::Parsed;
@@ -57,7 +58,7 @@ pub fn wrong_data(len: usize, f: usize) -> bool
 }
 
 // The large file flag of octet 0.
-pub fn flag_of(octet: usize) -> LargeFileFlag
+fn flag_of(octet: usize) -> LargeFileFlag
     ensures { λ r. ⌜ r ≡ flagOf octet ⌝ }
 {
     if octet % 2 == 0 {
@@ -67,9 +68,17 @@ pub fn flag_of(octet: usize) -> LargeFileFlag
     }
 }
 
-// What the header's first four octets say: the large file flag, I and Q, and so H; the length field.
+// The form that octet 0 says.
+pub fn form_of(octet: usize) -> Form
+    ensures { λ r. ⌜ r ≡ formOf octet ⌝ }
+{
+    let flag = flag_of(octet);
+    Form { flag }
+}
+
+// What the header's first four octets say: the form, I and Q, and so H; the length field.
 pub struct Header {
-    pub flag: LargeFileFlag,
+    pub form: Form,
     pub entity_length: usize,
     pub number_length: usize,
     pub length: usize,
@@ -83,11 +92,11 @@ pub fn header_in(packet: &[u8]) -> Header
     let octet = wide(packet[3]);
     let entity_length = octet / 16 % 8 + 1;
     let number_length = octet % 8 + 1;
-    let flag = flag_of(wide(packet[0]));
+    let form = form_of(wide(packet[0]));
     let length = header_length(entity_length, number_length);
     let data_length = get(packet, 1, 2) as usize;
     Header {
-        flag,
+        form,
         entity_length,
         number_length,
         length,
@@ -111,8 +120,8 @@ pub fn shape(packet: &[u8], header: Header) -> Verdict
     if packet[h] != NAK_CODE {
         return Verdict::Refused(Refusal::NotNak);
     }
-    let flag = header.flag;
-    if wrong_data(len, flag.field_length()) {
+    let form = header.form;
+    if wrong_data(len, form.field_length()) {
         return Verdict::Refused(Refusal::LengthMismatch);
     }
     Verdict::Passed
@@ -174,7 +183,9 @@ fn refused_by(number: u64, start: u64, end: u64, length: usize) -> Parsed
             number: 0,
             destination: 0,
         },
-        flag: LargeFileFlag::Normal,
+        form: Form {
+            flag: LargeFileFlag::Normal,
+        },
         scope_start: 0,
         scope_end: 0,
         from: 0,

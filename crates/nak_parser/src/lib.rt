@@ -1,7 +1,7 @@
 // Reading one NAK PDU into plain values.
+use nak::Form;
 use nak::Identity;
 use nak::LARGEST_PDU;
-use octets::LargeFileFlag;
 use octets::inner::get;
 use outcomes::Refusal;
 use outcomes::Verdict;
@@ -19,7 +19,7 @@ pub struct Parsed {
     pub start: u64,
     pub end: u64,
     pub identity: Identity,
-    pub flag: LargeFileFlag,
+    pub form: Form,
     pub scope_start: u64,
     pub scope_end: u64,
     pub from: usize,
@@ -40,8 +40,8 @@ pub fn parse(packet: &[u8]) -> Parsed
     if let Verdict::Refused(r) = shape {
         return inner::refused(r, total);
     }
-    let flag = header.flag;
-    let f = flag.field_length();
+    let form = header.form;
+    let f = form.field_length();
     let at = header.length + 1;
     let scope_start = get(packet, at, f);
     let scope_end = get(packet, at + f, f);
@@ -62,7 +62,7 @@ pub fn parse(packet: &[u8]) -> Parsed
         start: 0,
         end: 0,
         identity,
-        flag,
+        form,
         scope_start,
         scope_end,
         from,
@@ -102,8 +102,8 @@ pub fn next_at(packet: &[u8], at: usize) -> Found
             at,
         };
     }
-    let flag = inner::flag_of(inner::wide(packet[0]));
-    let f = flag.field_length();
+    let form = inner::form_of(inner::wide(packet[0]));
+    let f = form.field_length();
     if total - at < 2 * f {
         return Found {
             step: Step::End,

@@ -1,9 +1,9 @@
--- The sequence's answer where no check is met, and what each answer leaves in the buffer; the tests of 14 and of 7.
+-- What the checks that are passed say, and what each answer of the sequence leaves in the buffer; the tests of 14 and of 7.
 use native.Mathlib.Omega.{arith}
-use mathlib.Core.Path.{_≡_, sym, ap, _∙_}
+use mathlib.Core.Path.{_≡_, refl, sym, ap, _∙_}
 use mathlib.Core.Bool.{true, false, _||_}
 use mathlib.Core.List.{List, _++_}
-use Prim.Native.Nat.{ℕ, _+_, _*_, _≤_, _<_}
+use Prim.Native.Nat.{ℕ, _*_, _≤_, _<_}
 use lib.ListN.{length, take, drop}
 use lib.Dec.{ltb}
 use borrow.Author.Tests.{ltb-false, lt-ltb, le-ltb}
@@ -12,29 +12,20 @@ use Rattle.outcomes.specs.Refusal.{refusing}
 use Rattle.outcomes.specs.Checks.{NoneOf}
 use Rattle.outcomes.specs.declared.Refusal.{Refusal}
 use Rattle.outcomes.proofs.Refusals.{lent-refused}
-use Rattle.outcomes.proofs.FirstOf.{first-none}
 use Rattle.ranges.specs.Range.{lastEnd}
 use Rattle.ranges.specs.Store.{counted, anyAbove}
 use Rattle.ranges.proofs.Last.{above-counted}
-use Rattle.octets.specs.declared.LargeFileFlag.{LargeFileFlag}
-use Rattle.octets.specs.Flag.{fieldLength, largestOf}
-use Rattle.nak.specs.Writer.{isBadIdentity, largestPdu}
+use Rattle.nak.specs.declared.Form.{Form}
+use Rattle.octets.specs.Flag.{largestOf}
+use Rattle.nak.specs.Pdu.{isTooSmall}
+use Rattle.nak.specs.Writer.{largestPdu}
 use Rattle.reception.specs.Record.{recordChecks, Passed}
 use Rattle.reception.specs.declared.Reception.{Reception}
-use Rattle.reception.proofs.Sound.{sound, none-split, none-join}
-use Rattle.nak_sequence.specs.Sequence.{Order, headerOf, largestBudget, isBadSize, isTooLarge, asked}
-use Rattle.nak_sequence.specs.Sequence.{sent, reported, orderChecks, sequenceChecks, sequenceOutcome, sequenceBuffer}
+use Rattle.reception.proofs.Sound.{sound, none-split}
+use Rattle.sequence.specs.Sequence.{Order, isBadSize, isTooLarge, asked, sent, reported, orderChecks, sequenceChecks, sequenceOutcome, sequenceBuffer}
+use Rattle.sequence.proofs.Accepted.{Checked, seq-sent}
 
--- no check of a call is met, in numbers
-pub record Checked (rec : Reception) (xs : List ℕ) (o : Order) (given : ℕ) : Type 0 where
-  pub passed : Passed xs rec
-  pub identity : isBadIdentity (o .identity) ≡ false
-  pub size : isBadSize o ≡ false
-  pub large : isTooLarge rec xs (o .flag) ≡ false
-  pub cursor : o .cursor ≤ length (asked rec xs o .entries)
-  pub budget : o .budget ≤ largestBudget
-  pub room : o .budget * o .largest ≤ given
-
+-- what the checks that are not met say in numbers
 pub checked : (rec : Reception) (xs : List ℕ) (o : Order) (given : ℕ) → NoneOf (sequenceChecks rec xs o given) → Checked rec xs o given
 checked rec xs o given n =
     let w = none-split (recordChecks rec xs) (orderChecks rec xs o given) n in
@@ -48,12 +39,6 @@ checked rec xs o given n =
       budget = ltb-false _ _ (v .1 .1 .1 .1 .0);
       room = ltb-false _ _ (v .1 .1 .1 .1 .1 .0);
     }
-
--- and back
-pub none-met : (rec : Reception) (xs : List ℕ) (o : Order) (given : ℕ) → Checked rec xs o given → NoneOf (sequenceChecks rec xs o given)
-none-met rec xs o given k =
-    none-join (recordChecks rec xs) (orderChecks rec xs o given) (k .passed)
-    (k .identity, (k .size, (k .large, (le-ltb _ _ (k .cursor), (le-ltb _ _ (k .budget), (le-ltb _ _ (k .room), tt))))))
 
 module _ (rec : Reception) (xs : List ℕ) (o : Order) (buf : List ℕ) where
   -- what is reported, and the buffer with the octets sent
@@ -74,29 +59,26 @@ module _ (rec : Reception) (xs : List ℕ) (o : Order) (buf : List ℕ) where
   pub refused-by : (r : Refusal) → refusing r ≡ sequenceOutcome rec xs o (length buf) → Ends (refusing r) buf
   refused-by r e = (e, sym (lent-refused r new buf) ∙ left (refusing r) e)
 
-  pub seq-sent : Checked rec xs o (length buf) → done ≡ sequenceOutcome rec xs o (length buf)
-  seq-sent k = sym (first-none (sequenceChecks rec xs o (length buf)) done (none-met rec xs o (length buf) k))
-
   pub sent-by : Checked rec xs o (length buf) → Ends done new
-  sent-by k = let e = seq-sent k in (e, left done e)
+  sent-by k = let e = seq-sent rec xs o (length buf) k in (e, left done e)
 
 -- the tests of 14 and of 7
-pub size-of : (o : Order) (h f : ℕ) → h ≡ headerOf o → f ≡ fieldLength (o .flag) → (ltb largestPdu (o .largest) || ltb (o .largest) (h + 1 + 4 * f)) ≡ isBadSize o
+pub size-of : (o : Order) → (ltb largestPdu (o .largest) || isTooSmall (o .form) (o .identity) (o .largest)) ≡ isBadSize o
 unfolding isBadSize
-size-of o h f a b = rw (a, b)
+size-of o = refl
 
-module _ (rec : Reception) (xs : List ℕ) (g : LargeFileFlag) where
-  pub large-progress : largestOf g < rec .progress → isTooLarge rec xs g ≡ true
+module _ (rec : Reception) (xs : List ℕ) (g : Form) where
+  pub large-progress : largestOf (g .flag) < rec .progress → isTooLarge rec xs g ≡ true
   unfolding isTooLarge
-  large-progress h = rw (lt-ltb (largestOf g) (rec .progress) h)
+  large-progress h = rw (lt-ltb (largestOf (g .flag)) (rec .progress) h)
 
   -- no number of a sound record's list is above progress
-  none-larger : Passed xs rec → rec .progress ≤ largestOf g → anyAbove (largestOf g) (take (2 * rec .count) xs) ≡ false
+  none-larger : Passed xs rec → rec .progress ≤ largestOf (g .flag) → anyAbove (largestOf (g .flag)) (take (2 * rec .count) xs) ≡ false
   none-larger p h =
       let s = sound xs rec p in
       let e = s .above in
-      above-counted (largestOf g) xs (rec .count) (s .store .room) (s .whole) ∙ le-ltb (largestOf g) (lastEnd (counted xs (rec .count))) (omega arith)
+      above-counted (largestOf (g .flag)) xs (rec .count) (s .store .room) (s .whole) ∙ le-ltb (largestOf (g .flag)) (lastEnd (counted xs (rec .count))) (omega arith)
 
-  pub large-fine : Passed xs rec → rec .progress ≤ largestOf g → isTooLarge rec xs g ≡ false
+  pub large-fine : Passed xs rec → rec .progress ≤ largestOf (g .flag) → isTooLarge rec xs g ≡ false
   unfolding isTooLarge
-  large-fine p h = rw (le-ltb (largestOf g) (rec .progress) h, none-larger p h)
+  large-fine p h = rw (le-ltb (largestOf (g .flag)) (rec .progress) h, none-larger p h)

@@ -1,6 +1,6 @@
--- PDUs one after the other: one more PDU, the octets of some of them, and how many the entries fill.
+-- PDUs one after the other: one more PDU, the octets of some of them, and the loop that writes them.
 use mathlib.Core.Path.{_≡_, refl, sym, ap, _∙_}
-use mathlib.Core.List.{List, [], _∷_, _++_, append-assoc, append-nil}
+use mathlib.Core.List.{List, [], _∷_, _++_, append-nil}
 use Prim.Native.Nat.{ℕ, zero, suc, _+_, _*_, _-_, _≤_, _<_}
 use native.Mathlib.Nat.{zero-add, zero-mul, suc-mul, le-div-iff-mul-le}
 use native.Mathlib.Numerals.{add-one}
@@ -9,17 +9,11 @@ use lib.ListN.{length, drop, length-append}
 use Rattle.octets.specs.Octets.{withOctets}
 use Rattle.octets.proofs.Over.{over-nothing, over-join, length-over}
 use Rattle.nak.specs.Pdu.{Nak, pdu}
-use Rattle.nak_sequence.specs.Entries.{Asking, roundedUp, nakAt, naks, octetsOf}
+use Rattle.sequence.specs.Entries.{Asking, roundedUp, nakAt, naks, octetsOf}
+use Rattle.sequence.proofs.Together.{octets-append, naks-append}
 
-pub naks-snoc : (a : Asking) (f n : ℕ) → naks a f (suc n) ≡ naks a f n ++ (nakAt a (f + n * a .each) ∷ [])
-naks-snoc a f zero = let e : f + zero * a .each ≡ f = ap (λ (z : ℕ). f + z) (zero-mul (a .each)) ∙ omega arith in rw e
-naks-snoc a f (suc n) =
-    let e : f + a .each + n * a .each ≡ f + suc n * a .each = let s = suc-mul n (a .each) in omega arith in
-    ap (λ (l : List Nak). nakAt a f ∷ l) (naks-snoc a (f + a .each) n ∙ rw e)
-
-pub octets-append : (xs ys : List Nak) → octetsOf (xs ++ ys) ≡ octetsOf xs ++ octetsOf ys
-octets-append [] ys = refl
-octets-append (x ∷ xs) ys = ap (λ (l : List ℕ). pdu x ++ l) (octets-append xs ys) ∙ sym (append-assoc (pdu x) (octetsOf xs) (octetsOf ys))
+naks-snoc : (a : Asking) (f n : ℕ) → naks a f (suc n) ≡ naks a f n ++ (nakAt a (f + n * a .each) ∷ [])
+naks-snoc a f n = ap (naks a f) (sym (add-one n)) ∙ naks-append a f n 1
 
 -- the octets of one PDU more
 pub octets-snoc : (a : Asking) (f n : ℕ) → octetsOf (naks a f (suc n)) ≡ octetsOf (naks a f n) ++ pdu (nakAt a (f + n * a .each))
@@ -37,11 +31,14 @@ octets-less a f (suc n) (suc m) h =
     let y = length-append (pdu (nakAt a f)) (octetsOf (naks a (f + a .each) m)) in
     omega arith
 
--- a PDU below the number that is rounded up begins before the last entry
-pub begins-before : (e f k n : ℕ) → 1 ≤ k → n < roundedUp (e - f) k → f + n * k < e
-begins-before e f k n h l =
-    let p : suc n * k ≤ e - f + (k - 1) = le-div-iff-mul-le h .0 l in
-    let s = suc-mul n k in
+-- PDUs of at most p octets, n of them
+pub octets-short : (a : Asking) (p : ℕ) → ((f : ℕ) → length (pdu (nakAt a f)) ≤ p) → (f n : ℕ) → length (octetsOf (naks a f n)) ≤ n * p
+octets-short a p s f zero = omega arith
+octets-short a p s f (suc n) =
+    let i = octets-short a p s (f + a .each) n in
+    let q = s f in
+    let l = length-append (pdu (nakAt a f)) (octetsOf (naks a (f + a .each) n)) in
+    let m = suc-mul n p in
     omega arith
 
 -- the loop of `write_pdus`: n PDUs stand in the buffer, and the next begins at entry f and place `at`

@@ -1,9 +1,3 @@
 pub mod Listed
 pub mod Chain
-pub mod Sizes
 pub mod Answers
-pub mod Together
-pub mod Readable
-pub mod Parting
-pub mod Named
-pub mod Cases

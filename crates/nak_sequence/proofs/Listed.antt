@@ -11,11 +11,11 @@ use Rattle.ranges.specs.Range.{Range, range}
 use Rattle.ranges.specs.Store.{counted}
 use Rattle.ranges.proofs.Flat.{at, getD-counted, length-counted, take-counted, drop-of-counted}
 use Rattle.reception.specs.declared.Reception.{Reception}
-use Rattle.octets.specs.declared.LargeFileFlag.{LargeFileFlag}
+use Rattle.nak.specs.declared.Form.{Form}
 use Rattle.nak.specs.declared.Identity.{Identity}
 use Rattle.nak.specs.Pdu.{Nak, saying}
 use Rattle.nak.specs.Inner as writer
-use Rattle.nak_sequence.specs.Entries.{askingFor, entriesOf, entriesIn, endOf, scopeStart, lastEndOf, nakAt}
+use Rattle.sequence.specs.Entries.{askingFor, entriesOf, entriesIn, endOf, scopeStart, lastEndOf, nakAt}
 use Rattle.nak_sequence.specs.Inner.{entryCount}
 
 pub length-entries : (rec : Reception) (xs : List ℕ) → 2 * rec .count ≤ length xs → length (entriesIn rec xs) ≡ entryCount rec
@@ -72,7 +72,7 @@ count-le rec = go (rec .missing)
     go false = omega arith
 
 -- the PDU that `write_at` is asked for is the one from entry f on
-module _ (g : LargeFileFlag) (d : Identity) (rec : Reception) (xs : List ℕ) (k f s e c : ℕ)
+module _ (g : Form) (d : Identity) (rec : Reception) (xs : List ℕ) (k f s e c : ℕ)
     (h : 2 * rec .count ≤ length xs) (u : s ≡ scopeStart (entriesIn rec xs) f) (v : e ≡ lastEndOf (entriesIn rec xs) (rec .progress) k f)
     (w : c ≡ min k (entryCount rec - f)) where
   abbrev there : Nak

@@ -1,6 +1,6 @@
 -- Not of document 01: the number of entries as the inner functions count it, and what they ask of a record and its list.
 use Prim.Native.Nat.{ℕ, _+_, _*_, _≤_}
-use mathlib.Core.Bool.{Bool, cond}
+use mathlib.Core.Bool.{cond}
 use mathlib.Core.List.{List}
 use lib.ListN.{length}
 use Rattle.reception.specs.declared.Reception.{Reception}

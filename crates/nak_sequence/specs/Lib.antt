@@ -1,5 +1,1 @@
-pub mod Entries
-pub mod Sequence
-pub mod Calls
-pub mod Parted
 pub mod Inner

@@ -6,15 +6,16 @@ ghost use lib.Dec.{ltb};
 ghost use lib.ListN.{length};
 ghost use Rattle.octets.specs.Octets.{withOctets};
 ghost use Rattle.nak.specs.Inner.{GoodLengths};
-ghost use Rattle.nak.specs.Pdu.{pdu, headerLength};
+ghost use Rattle.nak.specs.Pdu.{pdu, isTooSmall};
 ghost use Rattle.ranges.specs.Store.{mostPairs};
 ghost use Rattle.nak.specs.Writer.{largestPdu};
-ghost use Rattle.nak_sequence.specs.Entries.{askingFor, entriesIn, perPdu, endOf, scopeStart, roundedUp, nakAt, naks, octetsOf, lastEndOf};
+ghost use Rattle.sequence.specs.Entries.{askingFor, entriesIn, endOf, scopeStart, roundedUp, nakAt, naks, octetsOf, lastEndOf};
 ghost use Rattle.nak_sequence.specs.Inner.{entryCount, Listed};
+use nak::Form;
 use nak::Identity;
 use nak::LARGEST_PDU;
+use nak::inner::lengths::too_small;
 use nak::inner::write_at;
-use octets::LargeFileFlag;
 use reception::Reception;
 
 // The smaller of two numbers.
@@ -24,31 +25,15 @@ pub fn smaller(a: usize, b: usize) -> usize
     if a < b { a } else { b }
 }
 
-// H: the length of the fixed header, with identifiers.
-pub fn header_length(identity: Identity) -> usize
-    requires { ⌜ GoodLengths identity ⌝ }
-    ensures { λ r. ⌜ r ≡ headerLength (identity .«entity_length») (identity .«number_length») ⌝ }
-{
-    4 + 2 * identity.entity_length + identity.number_length
-}
-
 // Whether the largest PDU is too large, or has no room for one request.
-pub fn bad_size(largest: usize, h: usize, f: usize) -> bool
-    requires { ⌜ (h ≤ 28) × (f ≤ 8) ⌝ }
-    ensures { λ r. ⌜ r ≡ (ltb largestPdu largest || ltb largest (h + 1 + 4 * f)) ⌝ }
+pub fn bad_size(identity: Identity, form: Form, largest: usize) -> bool
+    requires { ⌜ GoodLengths identity ⌝ }
+    ensures { λ r. ⌜ r ≡ (ltb largestPdu largest || isTooSmall form identity largest) ⌝ }
 {
     if LARGEST_PDU < largest {
         return true;
     }
-    largest < h + 1 + 4 * f
-}
-
-// k: how many requests a PDU holds.
-pub fn per_pdu(largest: usize, h: usize, f: usize) -> usize
-    requires { ⌜ (h + 1 + 4 * f ≤ largest) × ((4 ≤ f) × (f ≤ 8)) ⌝ }
-    ensures { λ r. ⌜ r ≡ perPdu largest h f ⌝ }
-{
-    (largest - h - 1 - 2 * f) / (2 * f)
+    too_small(identity, form, largest)
 }
 
 // E: how many entries there are.
@@ -107,25 +92,25 @@ fn write_pdu(
     rec: Reception,
     list: &[u64],
     identity: Identity,
-    flag: LargeFileFlag,
+    form: Form,
     k: usize,
     f: usize,
 ) -> usize
     requires { ⌜ GoodLengths identity × (Listed rec (now list) × ((1 ≤ k) × ((k ≤ largestPdu) × (f < entryCount rec)))) ⌝ }
-    requires { ⌜ at + length (pdu (nakAt (askingFor rec (now list) flag identity k) f)) ≤ length (now buf) ⌝ }
-    ensures { λ r. ⌜ r ≡ at + length (pdu (nakAt (askingFor rec (now (list .entry)) flag identity k) f)) ⌝ }
-    ensures { λ _. ⌜ now (buf .exit) ≡ withOctets (now (buf .entry)) at (pdu (nakAt (askingFor rec (now (list .entry)) flag identity k) f)) ⌝ }
+    requires { ⌜ at + length (pdu (nakAt (askingFor rec (now list) form identity k) f)) ≤ length (now buf) ⌝ }
+    ensures { λ r. ⌜ r ≡ at + length (pdu (nakAt (askingFor rec (now (list .entry)) form identity k) f)) ⌝ }
+    ensures { λ _. ⌜ now (buf .exit) ≡ withOctets (now (buf .entry)) at (pdu (nakAt (askingFor rec (now (list .entry)) form identity k) f)) ⌝ }
 {
     let start = scope_start(rec, list, f);
     let end = scope_end(rec, list, k, f);
     let m = smaller(k, entry_count(rec) - f);
     if rec.missing {
         if f == 0 {
-            return write_at(buf, at, identity, flag, start, end, true, list, 0, m - 1);
+            return write_at(buf, at, identity, form, start, end, true, list, 0, m - 1);
         }
-        return write_at(buf, at, identity, flag, start, end, false, list, f - 1, m);
+        return write_at(buf, at, identity, form, start, end, false, list, f - 1, m);
     }
-    write_at(buf, at, identity, flag, start, end, false, list, f, m)
+    write_at(buf, at, identity, form, start, end, false, list, f, m)
 }
 
 // The PDUs from entry `from` on, `pdus` of them, written from the buffer's front; hands back the octets written.
@@ -134,21 +119,21 @@ pub fn write_pdus(
     rec: Reception,
     list: &[u64],
     identity: Identity,
-    flag: LargeFileFlag,
+    form: Form,
     k: usize,
     from: usize,
     pdus: usize,
 ) -> usize
     requires { ⌜ GoodLengths identity × (Listed rec (now list) × ((1 ≤ k) × ((k ≤ largestPdu) × (pdus ≤ roundedUp (entryCount rec - from) k)))) ⌝ }
-    requires { ⌜ length (octetsOf (naks (askingFor rec (now list) flag identity k) from pdus)) ≤ length (now buf) ⌝ }
-    ensures { λ r. ⌜ r ≡ length (octetsOf (naks (askingFor rec (now (list .entry)) flag identity k) from pdus)) ⌝ }
-    ensures { λ _. ⌜ now (buf .exit) ≡ withOctets (now (buf .entry)) 0 (octetsOf (naks (askingFor rec (now (list .entry)) flag identity k) from pdus)) ⌝ }
+    requires { ⌜ length (octetsOf (naks (askingFor rec (now list) form identity k) from pdus)) ≤ length (now buf) ⌝ }
+    ensures { λ r. ⌜ r ≡ length (octetsOf (naks (askingFor rec (now (list .entry)) form identity k) from pdus)) ⌝ }
+    ensures { λ _. ⌜ now (buf .exit) ≡ withOctets (now (buf .entry)) 0 (octetsOf (naks (askingFor rec (now (list .entry)) form identity k) from pdus)) ⌝ }
 {
     let mut at = 0;
     let mut f = from;
     let mut n = 0;
     while n < pdus {
-        at = write_pdu(buf, at, rec, list, identity, flag, k, f);
+        at = write_pdu(buf, at, rec, list, identity, form, k, f);
         f += k;
         n += 1;
     }

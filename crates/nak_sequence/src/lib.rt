@@ -4,38 +4,34 @@ ghost use mathlib.Core.List.{[]};
 ghost use lib.ListN.{length};
 ghost use Rattle.outcomes.specs.Outcome.{accepted};
 ghost use Rattle.outcomes.specs.Checks.{verdictCase, firstOf};
-ghost use Rattle.nak_sequence.specs.Sequence.{sequenceChecks, sequenceCase, sequenceOutcome, sequenceBuffer, order};
+ghost use Rattle.sequence.specs.Sequence.{sequenceChecks, sequenceCase, sequenceOutcome, sequenceBuffer, order};
 use events::inner::record_checks;
+use nak::Form;
 use nak::Identity;
 use nak::inner::bad_identity;
-use octets::LargeFileFlag;
+use nak::inner::lengths::per_pdu;
 use outcomes::Refusal;
 use outcomes::Verdict;
 use reception::Reception;
+use sequence::SequenceAnswer;
 
 pub mod inner;
 
 // The most PDUs that a call writes.
 const LARGEST_BUDGET: usize = 16;
 
-pub enum SequenceAnswer {
-    // PDUs, octets written, new cursor.
-    Sent(usize, usize, usize),
-    Refused(Refusal),
-}
-
 // The checks of a call, `given` the length of its buffer.
 pub fn sequence_checks(
     rec: Reception,
     list: &[u64],
     identity: Identity,
-    flag: LargeFileFlag,
+    form: Form,
     largest: usize,
     cursor: usize,
     budget: usize,
     given: usize,
 ) -> Verdict
-    ensures { λ r. ⌜ verdictCase r ≡ firstOf (sequenceChecks rec (now (list .entry)) (order identity flag largest cursor budget) given) (accepted []) ⌝ }
+    ensures { λ r. ⌜ verdictCase r ≡ firstOf (sequenceChecks rec (now (list .entry)) (order identity form largest cursor budget) given) (accepted []) ⌝ }
 {
     let found = record_checks(rec, list);
     if let Verdict::Refused(r) = found {
@@ -44,13 +40,11 @@ pub fn sequence_checks(
     if bad_identity(identity) {
         return Verdict::Refused(Refusal::BadIdentity);
     }
-    let h = inner::header_length(identity);
-    let f = flag.field_length();
-    if inner::bad_size(largest, h, f) {
+    if inner::bad_size(identity, form, largest) {
         return Verdict::Refused(Refusal::PduSize);
     }
     // No number of a sound record's list is above progress.
-    if flag.largest() < rec.progress {
+    if form.largest() < rec.progress {
         return Verdict::Refused(Refusal::LargeSegmentForNormalFileSize);
     }
     let e = inner::entry_count(rec);
@@ -72,20 +66,20 @@ pub fn write_nak_sequence(
     rec: Reception,
     list: &[u64],
     identity: Identity,
-    flag: LargeFileFlag,
+    form: Form,
     largest: usize,
     cursor: usize,
     budget: usize,
     buf: &mut [u8],
 ) -> SequenceAnswer
-    ensures { λ r. ⌜ sequenceCase r ≡ sequenceOutcome rec (now (list .entry)) (order identity flag largest cursor budget) (length (now (buf .entry))) ⌝ }
-    ensures { λ _. ⌜ now (buf .exit) ≡ sequenceBuffer rec (now (list .entry)) (order identity flag largest cursor budget) (now (buf .entry)) ⌝ }
+    ensures { λ r. ⌜ sequenceCase r ≡ sequenceOutcome rec (now (list .entry)) (order identity form largest cursor budget) (length (now (buf .entry))) ⌝ }
+    ensures { λ _. ⌜ now (buf .exit) ≡ sequenceBuffer rec (now (list .entry)) (order identity form largest cursor budget) (now (buf .entry)) ⌝ }
 {
     let found = sequence_checks(
         rec,
         list,
         identity,
-        flag,
+        form,
         largest,
         cursor,
         budget,
@@ -94,11 +88,9 @@ pub fn write_nak_sequence(
     if let Verdict::Refused(r) = found {
         return SequenceAnswer::Refused(r);
     }
-    let h = inner::header_length(identity);
-    let f = flag.field_length();
-    let k = inner::per_pdu(largest, h, f);
+    let k = per_pdu(identity, form, largest);
     let e = inner::entry_count(rec);
     let pdus = inner::smaller(budget, (e - cursor + (k - 1)) / k);
-    let octets = inner::write_pdus(buf, rec, list, identity, flag, k, cursor, pdus);
+    let octets = inner::write_pdus(buf, rec, list, identity, form, k, cursor, pdus);
     SequenceAnswer::Sent(pdus, octets, inner::smaller(e, cursor + budget * k))
 }

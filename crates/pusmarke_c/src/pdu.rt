@@ -7,14 +7,14 @@ ghost use Rattle.nak.specs.Writer.{writeOutcome, written};
 ghost use Rattle.nak_parser.specs.Parser.{parsedOf};
 ghost use Rattle.nak_parser.specs.Step.{stepOutcome, placeAfter};
 ghost use Rattle.answers.specs.Answer.{answerOf};
-ghost use Rattle.c_values.specs.Input.{identityIn, flagIn};
+ghost use Rattle.c_values.specs.Input.{identityIn, formIn};
 ghost use Rattle.c_values.specs.Output.{nakOut, stepOut};
 use answers::PusmarkeAnswer;
 use answers::pdu::of_write;
 use c_values::PusmarkeIdentity;
 use c_values::PusmarkeNak;
 use c_values::PusmarkeStep;
-use c_values::inner::flag_in;
+use c_values::inner::form_in;
 use c_values::inner::identity_in;
 use c_values::pdu::flag_out;
 use c_values::pdu::identity_out;
@@ -29,12 +29,12 @@ pub extern "C" fn pusmarke_write(
     requests: &[u64],
     buf: &mut [u8],
 ) -> PusmarkeAnswer
-    ensures { λ r. ⌜ r ≡ answerOf (writeOutcome (now (requests .entry)) (saying (flagIn large) (identityIn identity) «scope_start» «scope_end» (pairs (now (requests .entry)))) (length (now (buf .entry)))) ⌝ }
-    ensures { λ _. ⌜ now (buf .exit) ≡ written (now (requests .entry)) (saying (flagIn large) (identityIn identity) «scope_start» «scope_end» (pairs (now (requests .entry)))) (now (buf .entry)) ⌝ }
+    ensures { λ r. ⌜ r ≡ answerOf (writeOutcome (now (requests .entry)) (saying (formIn large) (identityIn identity) «scope_start» «scope_end» (pairs (now (requests .entry)))) (length (now (buf .entry)))) ⌝ }
+    ensures { λ _. ⌜ now (buf .exit) ≡ written (now (requests .entry)) (saying (formIn large) (identityIn identity) «scope_start» «scope_end» (pairs (now (requests .entry)))) (now (buf .entry)) ⌝ }
 {
     let own = identity_in(identity);
-    let flag = flag_in(large);
-    of_write(nak::writer::write(own, flag, scope_start, scope_end, requests, buf))
+    let form = form_in(large);
+    of_write(nak::writer::write(own, form, scope_start, scope_end, requests, buf))
 }
 
 #[no_mangle]
@@ -43,7 +43,8 @@ pub extern "C" fn pusmarke_read(packet: &[u8]) -> PusmarkeNak
 {
     let p = nak_parser::parse(packet);
     let own = p.identity;
-    let flag = p.flag;
+    let form = p.form;
+    let flag = form.flag;
     let identity = identity_out(own);
     let large = flag_out(flag);
     PusmarkeNak {

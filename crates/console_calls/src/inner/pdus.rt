@@ -8,6 +8,7 @@ use crate::inner::store::flag_of;
 use answers::PusmarkeAnswer;
 use console_text::inner::part;
 use console_text::inner::print;
+use nak::Form;
 use nak::Identity;
 use nak_parser::Step;
 use nak_parser::inner::header_in;
@@ -24,6 +25,12 @@ fn identity_of(values: &[u64; 8209]) -> Identity {
     }
 }
 
+// The sixth is the form of the PDUs: the mark of its flag.
+fn form_of(mark: u64) -> Form {
+    let flag = flag_of(mark);
+    Form { flag }
+}
+
 // The requests of `write` are the words behind the first nine.
 fn write_requests(
     s: State,
@@ -35,7 +42,7 @@ fn write_requests(
     let size = part::first_octets(buf, values[8] as usize);
     let a = answers::pdu::of_write(nak::writer::write(
         identity_of(values),
-        flag_of(values[5]),
+        form_of(values[5]),
         values[6],
         values[7],
         requests,
@@ -73,8 +80,8 @@ fn show_flag(out: &mut [u8; 65536], at: usize, flag: LargeFileFlag) -> usize {
 }
 
 // A step for each request of the part that holds them, and one that says the end.
-fn steps_of(part: &[u8], flag: LargeFileFlag) -> usize {
-    part.len() / (2 * flag.field_length()) + 1
+fn steps_of(part: &[u8], form: Form) -> usize {
+    part.len() / (2 * form.field_length()) + 1
 }
 
 // Steps the reader from a place to its end.
@@ -109,7 +116,8 @@ fn read_packet(s: State, packet: &[u8], out: &mut [u8; 65536]) -> State {
         return refusals::show_refusal(s, a, out);
     }
     let identity = parsed.identity;
-    let flag = parsed.flag;
+    let form = parsed.form;
+    let flag = form.flag;
     let mut at = print::text(out, s.at, b"nak");
     at = print::number(out, at, identity.entity_length as u64);
     at = print::number(out, at, identity.number_length as u64);
@@ -119,7 +127,7 @@ fn read_packet(s: State, packet: &[u8], out: &mut [u8; 65536]) -> State {
     at = show_flag(out, at, flag);
     at = print::number(out, at, parsed.scope_start);
     at = print::number(out, at, parsed.scope_end);
-    let steps = steps_of(nak_parser::requests(packet), flag);
+    let steps = steps_of(nak_parser::requests(packet), form);
     at = show_requests(out, at, packet, parsed.next, steps);
     state::answered(s, out, at)
 }
@@ -178,11 +186,11 @@ pub fn sequence(
     let lent = part::first_numbers(memory, s.length);
     let size = part::first_octets(buf, values[9] as usize);
     let rec = s.rec;
-    let a = answers::sequence::of_sequence(nak_sequence::write_nak_sequence(
+    let a = answers::pdus::of_sequence(nak_sequence::write_nak_sequence(
         rec,
         &memory[..lent],
         identity_of(values),
-        flag_of(values[5]),
+        form_of(values[5]),
         values[6] as usize,
         values[7] as usize,
         values[8] as usize,

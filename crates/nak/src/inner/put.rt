@@ -1,5 +1,6 @@
 // The octets of a PDU, put into a buffer.
 use crate::FIXED_BITS;
+use crate::Form;
 use crate::Identity;
 use crate::NAK_CODE;
 use crate::inner::lengths::asked_numbers;
@@ -34,10 +35,11 @@ fn flag_bit(flag: LargeFileFlag) -> u64
 }
 
 // The header's first four octets.
-fn put_header(buf: &mut [u8], at: usize, flag: LargeFileFlag, i: usize, q: usize, len: usize)
+fn put_header(buf: &mut [u8], at: usize, form: Form, i: usize, q: usize, len: usize)
     requires { ⌜ (1 ≤ i) × (i ≤ 8) × (1 ≤ q) × (q ≤ 8) × (at + 4 ≤ length (now buf)) ⌝ }
-    ensures { λ _. ⌜ now (buf .exit) ≡ withOctets (now (buf .entry)) at (headerOctets flag i q len) ⌝ }
+    ensures { λ _. ⌜ now (buf .exit) ≡ withOctets (now (buf .entry)) at (headerOctets form i q len) ⌝ }
 {
+    let flag = form.flag;
     put(buf, at, 1, FIXED_BITS as u64 + flag_bit(flag));
     put(buf, at + 1, 2, wide(len));
     put(buf, at + 3, 1, wide((i - 1) * 16 + (q - 1)));
@@ -98,7 +100,7 @@ pub fn write_at(
     buf: &mut [u8],
     at: usize,
     identity: Identity,
-    flag: LargeFileFlag,
+    form: Form,
     start: u64,
     end: u64,
     metadata: bool,
@@ -107,15 +109,15 @@ pub fn write_at(
     count: usize,
 ) -> usize
     requires { ⌜ GoodLengths identity × (2 * first + 2 * count ≤ length (now requests))
-        × (at + length (pdu (saying flag identity start end (entries metadata (now requests) first count))) ≤ length (now buf)) ⌝ }
-    ensures { λ r. ⌜ (r ≡ at + length (pdu (saying flag identity start end (entries metadata (now (requests .entry)) first count))))
-        × (now (buf .exit) ≡ withOctets (now (buf .entry)) at (pdu (saying flag identity start end (entries metadata (now (requests .entry)) first count)))) ⌝ }
+        × (at + length (pdu (saying form identity start end (entries metadata (now requests) first count))) ≤ length (now buf)) ⌝ }
+    ensures { λ r. ⌜ (r ≡ at + length (pdu (saying form identity start end (entries metadata (now (requests .entry)) first count))))
+        × (now (buf .exit) ≡ withOctets (now (buf .entry)) at (pdu (saying form identity start end (entries metadata (now (requests .entry)) first count)))) ⌝ }
 {
     let i = identity.entity_length;
     let q = identity.number_length;
-    let f = flag.field_length();
-    let len = data_length(flag, asked_numbers(metadata) + 2 * count);
-    put_header(buf, at, flag, i, q, len);
+    let f = form.field_length();
+    let len = data_length(form, asked_numbers(metadata) + 2 * count);
+    put_header(buf, at, form, i, q, len);
     put_identity(buf, at + 4, identity);
     let place = at + header_length(i, q);
     put_data(buf, place, f, start, end, metadata, requests, first, count);

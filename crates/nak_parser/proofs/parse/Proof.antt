@@ -52,21 +52,24 @@ h-is : (c : tie.After-enum-told) → headerE c .length ≡ headerLengthIn (p (st
 h-is c = ap (λ (h : Header). h .length) (c .before .before .before .header-in .ensures)
 
 -- F, and where the scope and the requests start
+abbrev fromF : tie.After-field-length → tie.After-enum-told
+fromF c = c .before .before
+
 abbrev startF : tie.After-field-length → tie.Start
-startF c = startE (c .before)
+startF c = startE (fromF c)
 
 abbrev f : tie.After-field-length → ℕ
 f c = c .field-length .result
 
 abbrev at : tie.After-field-length → ℕ
-at c = headerE (c .before) .length + 1
+at c = headerE (fromF c) .length + 1
 
 f-is : (c : tie.After-field-length) → f c ≡ fieldLengthIn (p (startF c))
 unfolding fieldLengthIn
-f-is c = c .field-length .ensures ∙ ap (λ (h : Header). fieldLength (h .flag)) (c .before .before .before .before .header-in .ensures)
+f-is c = c .field-length .ensures ∙ ap (λ (h : Header). fieldLength (h .form .flag)) (fromF c .before .before .before .header-in .ensures)
 
 at-is : (c : tie.After-field-length) → at c ≡ headerLengthIn (p (startF c)) + 1
-at-is c = ap (λ (h : ℕ). h + 1) (h-is (c .before))
+at-is c = ap (λ (h : ℕ). h + 1) (h-is (fromF c))
 
 place : (c : tie.After-field-length) → behindScope (at c) (f c) ≡ requestsAt (p (startF c))
 place c = is-place (p (startF c)) (at-is c) (f-is c)
@@ -74,7 +77,7 @@ place c = is-place (p (startF c)) (at-is c) (f-is c)
 room : (c : tie.After-field-length) → (at c ≤ 29) × ((4 ≤ f c) × ((f c ≤ 8) × (at c + 2 * f c ≤ length (p (startF c)))))
 room c =
     let q = p (startF c) in
-    let s = shape-right (c .before) in
+    let s = shape-right (fromF c) in
     let a = at-is c in
     let e = f-is c in
     (omega (arith, header-high q), (omega (arith, field-low q), (omega (arith, field-high q), omega (arith, s .total, s .room))))
@@ -105,7 +108,7 @@ asked c =
     c .check-packet .ensures ∙ ap (λ (rs : List Range). firstOf (requestsChecks rs) (accepted [])) (is-requests (p (startC c)) (place g) (f-is g))
 
 abbrev shapeC : (c : tie.After-check-packet) → Shape (p (startC c))
-shapeC c = shape-right (fromG (fromC c .before) .before)
+shapeC c = shape-right (fromF (fromG (fromC c .before)))
 
 -- they are right
 abbrev fromR : tie.After-enum-told2 → tie.After-check-packet
@@ -171,7 +174,7 @@ returns-3 c =
     let g = c .before .before in
     let q = p (startF (fromG g)) in
     let reversed = lt-ltb (scopeIn q .end) (scopeIn q .start) (rw (← scope g) (c .before .if2 .taken)) in
-    c .refused3 .ensures ∙ parsed-by q refusal.ScopeReversed (rw (from-scope q (shape-right (fromG g .before)), reversed))
+    c .refused3 .ensures ∙ parsed-by q refusal.ScopeReversed (rw (from-scope q (shape-right (fromF (fromG g))), reversed))
 
 mul-from : tie.Need-mul-from
 mul-from c = omega (arith, room (fromG (c .before)))
@@ -225,7 +228,7 @@ identity-in-requires : tie.Need-identity-in-requires
 identity-in-requires c κs =
     let b = fromR (c .before) in
     let g = fromG (fromC b .before) in
-    (omega (arith, shapeC b .total), g .before .before .before .before .header-in .ensures)
+    (omega (arith, shapeC b .total), fromF g .before .before .before .header-in .ensures)
 
 returns-6 : tie.Need-returns-6
 returns-6 c =
@@ -234,8 +237,8 @@ returns-6 c =
     let q = p (startC b) in
     let g = fromG (fromC b .before) in
     let e : readOutcome q ≡ accepted [] = rw (then-size d, le-ltb largestPdu (length q) (omega (arith, c .before .if3 .left))) in
-    let flag = ap (λ (h : Header). h .flag) (g .before .before .before .before .header-in .ensures) in
-    is-parsed q (c .identity-in .ensures) flag (scope (fromC b .before)) (place g) ∙ sym (parsed-accepted q e)
+    let form = ap (λ (h : Header). h .form) (fromF g .before .before .before .header-in .ensures) in
+    is-parsed q (c .identity-in .ensures) form (scope (fromC b .before)) (place g) ∙ sym (parsed-accepted q e)
 
 pub parse-spec : {M : Type 1} → statement M
 parse-spec =

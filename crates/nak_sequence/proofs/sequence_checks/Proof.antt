@@ -4,7 +4,7 @@ use native.Mathlib.Nat.{mul-le-mul-right}
 use mathlib.Core.Path.{_≡_, sym, ap, _∙_}
 use mathlib.Core.Bool.{false}
 use mathlib.Core.List.{List, [], _++_}
-use Prim.Native.Nat.{ℕ, _*_, _≤_, _<_}
+use Prim.Native.Nat.{ℕ, _≤_, _<_}
 use lib.ListN.{length}
 use borrow.Author.Needs.{needs}
 use borrow.Author.Tests.{lt-ltb, le-ltb}
@@ -12,16 +12,15 @@ use Rattle.outcomes.specs.Outcome.{accepted}
 use Rattle.outcomes.specs.Checks.{Check, verdictCase, firstOf}
 use Rattle.outcomes.specs.declared.Refusal.{Refusal}
 use Rattle.outcomes.proofs.FirstOf.{none-of}
-use Rattle.octets.specs.Flag.{fieldLength}
 use Rattle.nak.specs.Inner.{GoodLengths}
-use Rattle.nak.specs.Writer.{isBadIdentity, largestPdu}
+use Rattle.nak.specs.Writer.{isBadIdentity}
 use Rattle.nak.proofs.Checks.{good-lengths}
 use Rattle.reception.specs.declared.Reception.{Reception}
 use Rattle.reception.specs.Record.{recordChecks, Passed}
 use Rattle.reception.proofs.Sound.{Sound, sound, refused-record, behind-record}
-use Rattle.nak_sequence.specs.Sequence.{Order, order, largestBudget, isBadSize, isTooLarge, asked, orderChecks}
+use Rattle.sequence.specs.Sequence.{Order, order, largestBudget, isBadSize, isTooLarge, asked, orderChecks}
 use Rattle.nak_sequence.proofs.Listed.{length-entries}
-use Rattle.nak_sequence.proofs.Sizes.{field-high, small-size}
+use Rattle.sequence.proofs.Sizes.{small-size}
 use Rattle.nak_sequence.proofs.Answers.{size-of, large-progress, large-fine}
 use Rattle.nak_sequence.proofs.sequence_checks.Statement.{statement}
 use Rattle.nak_sequence.proofs.sequence_checks.Tie as tie
@@ -34,7 +33,7 @@ abbrev xs : tie.After-record-checks → List ℕ
 xs b = b .before .before .args .list .now
 
 abbrev ord : tie.After-record-checks → Order
-ord b = let a = b .before .before .args in order (a .identity) (a .flag) (a .largest) (a .cursor) (a .budget)
+ord b = let a = b .before .before .args in order (a .identity) (a .form) (a .largest) (a .cursor) (a .budget)
 
 abbrev given : tie.After-record-checks → ℕ
 given b = b .before .before .args .given
@@ -70,10 +69,10 @@ lengths c = good-lengths (ord (fromP (from1 c)) .identity) (identity c)
 
 -- 14
 abbrev fromS : tie.After-bad-size → tie.Else1
-fromS c = c .before .before .before
+fromS c = c .before
 
 size : (c : tie.After-bad-size) → c .bad-size .result ≡ isBadSize (ord (fromP (from1 (fromS c))))
-size c = c .bad-size .ensures ∙ size-of (ord (fromP (from1 (fromS c)))) _ _ (c .before .before .header-length .ensures) (c .before .field-length .ensures)
+size c = c .bad-size .ensures ∙ size-of (ord (fromP (from1 (fromS c))))
 
 abbrev from2 : tie.Else2 → tie.After-enum-told
 from2 c = from1 (fromS (c .before))
@@ -85,10 +84,10 @@ sized c = sym (size (c .before)) ∙ c .if2 .left
 abbrev from3 : tie.Else3 → tie.Else2
 from3 c = c .before .before .before
 
-large : (c : tie.Else3) → let b = fromP (from2 (from3 c)) in isTooLarge (rec b) (xs b) (ord b .flag) ≡ false
+large : (c : tie.Else3) → let b = fromP (from2 (from3 c)) in isTooLarge (rec b) (xs b) (ord b .form) ≡ false
 large c =
     let b = fromP (from2 (from3 c)) in
-    large-fine (rec b) (xs b) (ord b .flag) (passed (from2 (from3 c))) (rw (c .before .before .largest .ensures) at (c .if3 .left))
+    large-fine (rec b) (xs b) (ord b .form) (passed (from2 (from3 c))) (rw (c .before .before .largest .ensures) at (c .if3 .left))
 
 -- 11
 abbrev fromE : tie.After-entry-count → tie.After-enum-told
@@ -131,16 +130,8 @@ bad-identity-requires c κs = search needs
 returns-2 : tie.Need-returns-2
 returns-2 c = rw (← behind (c .before .before)) (rw (sym (c .before .bad-identity .ensures) ∙ c .if1 .taken))
 
-header-length-requires : tie.Need-header-length-requires
-header-length-requires c κs = lengths c
-
-field-length-requires : tie.Need-field-length-requires
-field-length-requires c κs = search needs
-
 bad-size-requires : tie.Need-bad-size-requires
-bad-size-requires c κs =
-    let g = lengths (c .before .before) in
-    (omega (arith, g .entity-high, g .number-high, c .before .header-length .ensures), omega (arith, field-high (ord (fromP (from1 (c .before .before))) .flag), c .field-length .ensures))
+bad-size-requires c κs = lengths c
 
 returns-3 : tie.Need-returns-3
 returns-3 c = let p = fromS (c .before) in rw (← behind (from1 p)) (rw (identity p, sym (size (c .before)) ∙ c .if2 .taken))
@@ -152,7 +143,7 @@ returns-4 : tie.Need-returns-4
 returns-4 c =
     let p = c .before .before .before in
     let b = fromP (from2 p) in
-    let t = large-progress (rec b) (xs b) (ord b .flag) (rw (c .before .before .largest .ensures) at (c .if3 .taken)) in
+    let t = large-progress (rec b) (xs b) (ord b .form) (rw (c .before .before .largest .ensures) at (c .if3 .taken)) in
     rw (← behind (from2 p)) (rw (identity (fromS (p .before)), sized p, t))
 
 entry-count-requires : tie.Need-entry-count-requires
@@ -202,8 +193,6 @@ sequence-checks-spec =
     enum-told
     bad-identity-requires
     returns-2
-    header-length-requires
-    field-length-requires
     bad-size-requires
     returns-3
     largest-requires

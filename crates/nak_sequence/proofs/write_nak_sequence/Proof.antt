@@ -10,21 +10,21 @@ use Rattle.outcomes.specs.Outcome.{accepted}
 use Rattle.outcomes.specs.Checks.{verdictCase, firstOf}
 use Rattle.outcomes.specs.declared.Refusal.{Refusal}
 use Rattle.outcomes.proofs.FirstOf.{first-refused, none-of}
-use Rattle.octets.specs.Flag.{fieldLength}
 use Rattle.octets.specs.Octets.{withOctets}
 use Rattle.nak.specs.Inner.{GoodLengths}
-use Rattle.nak.specs.Pdu.{headerLength}
 use Rattle.nak.proofs.Checks.{good-lengths}
+use Rattle.nak.proofs.Room.{per-high}
 use Rattle.reception.specs.declared.Reception.{Reception}
 use Rattle.reception.proofs.Sound.{Sound, sound}
 use Rattle.nak.specs.Writer.{largestPdu}
-use Rattle.nak_sequence.specs.Entries.{Asking, askingFor, perPdu, roundedUp, naks, octetsOf}
-use Rattle.nak_sequence.specs.Inner.{entryCount, Listed}
-use Rattle.nak_sequence.specs.Sequence.{Order, order, headerOf, largestBudget, asked, pduCount, sent, newCursor, sequenceChecks}
+use Rattle.sequence.specs.Entries.{Asking, askingFor, roundedUp, naks, octetsOf}
+use Rattle.nak_sequence.specs.Inner.{Listed}
+use Rattle.sequence.specs.Sequence.{Order, order, largestBudget, asked, pduCount, sent, newCursor, sequenceChecks}
 use Rattle.nak_sequence.proofs.Listed.{length-entries, count-le}
-use Rattle.nak_sequence.proofs.Sizes.{field-low, field-high, per-high, pdu-short, octets-short, small-size, some-each, each-low}
-use Rattle.nak_sequence.proofs.Answers.{Checked, checked, done, refused-by, sent-by}
-use Rattle.nak_sequence.proofs.Chain.{at-front}
+use Rattle.sequence.proofs.Sizes.{pdu-short, small-size, some-each, each-low}
+use Rattle.sequence.proofs.Accepted.{Checked}
+use Rattle.nak_sequence.proofs.Answers.{checked, done, refused-by, sent-by}
+use Rattle.nak_sequence.proofs.Chain.{octets-short, at-front}
 use Rattle.nak_sequence.proofs.write_nak_sequence.Statement.{statement}
 use Rattle.nak_sequence.proofs.write_nak_sequence.Tie as tie
 
@@ -39,7 +39,7 @@ abbrev xs : tie.After-sequence-checks → List ℕ
 xs b = b .before .before .before .args .list .now
 
 abbrev ord : tie.After-sequence-checks → Order
-ord b = let a = b .before .before .before .args in order (a .identity) (a .flag) (a .largest) (a .cursor) (a .budget)
+ord b = let a = b .before .before .before .args in order (a .identity) (a .form) (a .largest) (a .cursor) (a .budget)
 
 abbrev buf : tie.After-sequence-checks → List ℕ
 buf b = b .before .before .before .args .buf .now
@@ -70,22 +70,12 @@ lengths c = good-lengths (ord (fromP c) .identity) (checks c .identity)
 listed : (c : tie.After-enum-told) → Listed (rec (fromP c)) (xs (fromP c))
 listed c = let s = holds c .store in (s .room, omega (arith, s .room, s .small))
 
--- H and F
-abbrev fromF : tie.After-field-length → tie.After-enum-told
-fromF c = c .before .before
-
-header : (c : tie.After-field-length) → c .before .header-length .result ≡ headerOf (ord (fromP (fromF c)))
-header c = c .before .header-length .ensures
-
-field : (c : tie.After-field-length) → c .field-length .result ≡ fieldLength (ord (fromP (fromF c)) .flag)
-field c = c .field-length .ensures
-
 -- k
 abbrev fromK : tie.After-per-pdu → tie.After-enum-told
-fromK c = fromF (c .before)
+fromK c = c .before
 
 each : (c : tie.After-per-pdu) → c .per-pdu .result ≡ share (fromP (fromK c)) .each
-each c = c .per-pdu .ensures ∙ ap₂ (λ (h f : ℕ). perPdu (ord (fromP (fromK c)) .largest) h f) (header (c .before)) (field (c .before))
+each c = c .per-pdu .ensures
 
 low : (c : tie.After-per-pdu) → 1 ≤ c .per-pdu .result
 low c = omega (arith, each c, each-low (ord (fromP (fromK c))) (checks (fromK c) .size))
@@ -93,7 +83,7 @@ low c = omega (arith, each c, each-low (ord (fromP (fromK c))) (checks (fromK c)
 high : (c : tie.After-per-pdu) → c .per-pdu .result ≤ largestPdu
 high c =
     let o = ord (fromP (fromK c)) in
-    omega (arith, each c, per-high (o .largest) (headerOf o) (fieldLength (o .flag)), small-size o (checks (fromK c) .size))
+    omega (arith, each c, per-high (o .form) (o .identity) (o .largest), small-size o (checks (fromK c) .size))
 
 -- E
 abbrev fromE : tie.After-entry-count → tie.After-enum-told
@@ -119,7 +109,7 @@ pdus c =
 
 -- the PDUs that are asked for, and their room
 abbrev asking : tie.After-smaller → Asking
-asking c = let o = ord (fromP (fromN c)) in askingFor (rec (fromP (fromN c))) (xs (fromP (fromN c))) (o .flag) (o .identity) (c .before .before .per-pdu .result)
+asking c = let o = ord (fromP (fromN c)) in askingFor (rec (fromP (fromN c))) (xs (fromP (fromN c))) (o .form) (o .identity) (c .before .before .per-pdu .result)
 
 room : (c : tie.After-smaller) → length (octetsOf (naks (asking c) (ord (fromP (fromN c)) .cursor) (c .smaller .result))) ≤ length (buf (fromP (fromN c)))
 room c =
@@ -137,7 +127,7 @@ octets : (c : tie.After-smaller) → octetsOf (naks (asking c) (ord (fromP (from
 octets c =
     let o = ord (fromP (fromN c)) in
     let b = fromP (fromN c) in
-    ap₂ (λ (k m : ℕ). octetsOf (naks (askingFor (rec b) (xs b) (o .flag) (o .identity) k) (o .cursor) m)) (each (c .before .before)) (pdus c)
+    ap₂ (λ (k m : ℕ). octetsOf (naks (askingFor (rec b) (xs b) (o .form) (o .identity) k) (o .cursor) m)) (each (c .before .before)) (pdus c)
 
 -- the new cursor fits
 steps : (c : tie.After-smaller) → ord (fromP (fromN c)) .budget * c .before .before .per-pdu .result ≤ largestBudget * largestPdu
@@ -162,17 +152,8 @@ returns c =
 enum-told : tie.Need-enum-told
 enum-told c = search needs
 
-header-length-requires : tie.Need-header-length-requires
-header-length-requires c κs = lengths c
-
-field-length-requires : tie.Need-field-length-requires
-field-length-requires c κs = search needs
-
 per-pdu-requires : tie.Need-per-pdu-requires
-per-pdu-requires c κs =
-    let o = ord (fromP (fromF c)) in
-    let z = some-each o (checks (fromF c) .size) in
-    (omega (arith, z, header c, field c), (omega (arith, field c, field-low (o .flag)), omega (arith, field c, field-high (o .flag))))
+per-pdu-requires c κs = (lengths c, some-each (ord (fromP c)) (checks c .size))
 
 entry-count-requires : tie.Need-entry-count-requires
 entry-count-requires c κs = listed (fromK c) .1
@@ -231,8 +212,6 @@ write-nak-sequence-spec =
     enum-known-found
     returns
     enum-told
-    header-length-requires
-    field-length-requires
     per-pdu-requires
     entry-count-requires
     sub-smaller

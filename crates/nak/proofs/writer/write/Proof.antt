@@ -25,7 +25,7 @@ abbrev xs : tie.After-write-checks → List ℕ
 xs b = start b .args .requests .now
 
 abbrev nak : tie.After-write-checks → Nak
-nak b = saying (start b .args .flag) (start b .args .identity) (start b .args .start) (start b .args .end) (pairs (xs b))
+nak b = saying (start b .args .form) (start b .args .identity) (start b .args .start) (start b .args .end) (pairs (xs b))
 
 abbrev buf : tie.After-write-checks → List ℕ
 buf b = start b .args .buf .now

@@ -27,7 +27,7 @@ abbrev xs : tie.Start → List ℕ
 xs s = s .args .requests .now
 
 abbrev nak : tie.Start → Nak
-nak s = saying (s .args .flag) (s .args .identity) (s .args .start) (s .args .end) (pairs (xs s))
+nak s = saying (s .args .form) (s .args .identity) (s .args .start) (s .args .end) (pairs (xs s))
 
 abbrev said : tie.Start → Outcome
 said s = firstOf (writeChecks (xs s) (nak s) (s .args .given)) (accepted [])
@@ -75,7 +75,7 @@ even c = flat-pairs (xs (startR c)) (good-list (xs (startR c)) (list (fromR c .b
 abbrev fromA : tie.After-any-number-above → tie.After-enum-told
 fromA c = c .before .before
 
-above : (c : tie.After-any-number-above) → let s = startR (fromA c) in c .any-number-above .result ≡ anyAbove (largestOf (s .args .flag)) (numbersOf (nak s))
+above : (c : tie.After-any-number-above) → let s = startR (fromA c) in c .any-number-above .result ≡ anyAbove (largestOf (s .args .form .flag)) (numbersOf (nak s))
 above c =
     let s = startR (fromA c) in
     c .any-number-above .ensures ∙ ap (λ (t : ℕ). anyAbove t (s .args .start ∷ s .args .end ∷ xs s)) (c .before .largest .ensures) ∙ rw (even (fromA c))
@@ -87,10 +87,10 @@ startP c = startR (fromA (c .before .before))
 total : (c : tie.After-pdu-length) → c .pdu-length .result ≡ length (pdu (nak (startP c)))
 total c =
     let s = startP c in
-    let e : pduLength (s .args .flag) (s .args .identity) (length (xs s)) ≡ pduLength (s .args .flag) (s .args .identity) (length (flat (pairs (xs s)))) = rw (even (fromA (c .before .before))) in
+    let e : pduLength (s .args .form) (s .args .identity) (length (xs s)) ≡ pduLength (s .args .form) (s .args .identity) (length (flat (pairs (xs s)))) = rw (even (fromA (c .before .before))) in
     c .pdu-length .ensures ∙ e ∙ pdu-length (nak s)
 
-not-above : (c : tie.Else4) → let s = startR (fromA (c .before)) in anyAbove (largestOf (s .args .flag)) (numbersOf (nak s)) ≡ false
+not-above : (c : tie.Else4) → let s = startR (fromA (c .before)) in anyAbove (largestOf (s .args .form .flag)) (numbersOf (nak s)) ≡ false
 not-above c = sym (above (c .before)) ∙ c .if4 .left
 
 small : (c : tie.Else5) → length (pdu (nak (startP (c .before)))) ≤ largestPdu

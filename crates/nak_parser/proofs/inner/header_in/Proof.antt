@@ -1,7 +1,7 @@
 -- `nak_parser::inner::header_in` meets its contract: it computes the definition.
 use mathlib.Core.Path.{ap, _∙_}
-use Rattle.nak.specs.Header.{flagOf}
-use Rattle.nak_parser.specs.Parser.{packetFlag, entityLengthIn, numberLengthIn, headerLengthIn, lengthField}
+use Rattle.nak.specs.Header.{formOf}
+use Rattle.nak_parser.specs.Parser.{packetForm, entityLengthIn, numberLengthIn, headerLengthIn, lengthField}
 use borrow.Author.Needs.{needs}
 use Rattle.nak_parser.proofs.inner.header_in.Statement.{statement}
 use Rattle.nak_parser.proofs.inner.header_in.Tie as tie
@@ -24,8 +24,8 @@ shared-slice-read-wide-2 c = search needs
 wide-requires-2 : tie.Need-wide-requires-2
 wide-requires-2 c κs = search needs
 
-flag-of-requires : tie.Need-flag-of-requires
-flag-of-requires c κs = search needs
+form-of-requires : tie.Need-form-of-requires
+form-of-requires c κs = search needs
 
 header-length-requires : tie.Need-header-length-requires
 header-length-requires c κs = search needs
@@ -34,11 +34,11 @@ get-requires : tie.Need-get-requires
 get-requires c κs = search needs
 
 returns : tie.Need-returns
-unfolding packetFlag entityLengthIn numberLengthIn headerLengthIn lengthField
+unfolding packetForm entityLengthIn numberLengthIn headerLengthIn lengthField
 returns c =
     let octet3 = c .before .before .before .before .before .wide .ensures in
-    let flag = c .before .before .flag-of .ensures ∙ ap flagOf (c .before .before .before .wide2 .ensures) in
-    rw (flag, c .before .header-length .ensures, c .get .ensures, octet3)
+    let form = c .before .before .form-of .ensures ∙ ap formOf (c .before .before .before .wide2 .ensures) in
+    rw (form, c .before .header-length .ensures, c .get .ensures, octet3)
 
 pub header-in-spec : {M : Type 1} → statement M
 header-in-spec =
@@ -50,7 +50,7 @@ header-in-spec =
     add-number-length
     shared-slice-read-wide-2
     wide-requires-2
-    flag-of-requires
+    form-of-requires
     header-length-requires
     get-requires
     returns)

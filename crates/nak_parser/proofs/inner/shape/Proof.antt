@@ -65,12 +65,15 @@ code : (c : tie.Else3) → octetAt (p (startC c)) (headerLengthIn (p (startC c))
 code c = ap (octetAt (p (startC c))) (sym (h-is (startC c))) ∙ c .if3 .left
 
 -- the data field
-f-is : (c : tie.After-field-length) → c .field-length .result ≡ fieldLengthIn (p (startC (c .before)))
+abbrev fromF : tie.After-field-length → tie.Else3
+fromF c = c .before .before
+
+f-is : (c : tie.After-field-length) → c .field-length .result ≡ fieldLengthIn (p (startC (fromF c)))
 unfolding fieldLengthIn
-f-is c = c .field-length .ensures ∙ ap (λ (h : Header). fieldLength (h .flag)) (startC (c .before) .pre .1)
+f-is c = c .field-length .ensures ∙ ap (λ (h : Header). fieldLength (h .form .flag)) (startC (fromF c) .pre .1)
 
 abbrev startD : tie.After-wrong-data → tie.Start
-startD c = startC (c .before .before)
+startD c = startC (fromF (c .before))
 
 whole : (c : tie.After-wrong-data) → c .wrong-data .result ≡ wrongData (p (startD c))
 whole c = let s = startD c in c .wrong-data .ensures ∙ is-data (p s) (len-is s) (f-is (c .before))
@@ -121,20 +124,20 @@ field-length-requires c κs = search needs
 
 wrong-data-requires : tie.Need-wrong-data-requires
 wrong-data-requires c κs =
-    let q = p (startC (c .before)) in
+    let q = p (startC (fromF c)) in
     (omega (arith, f-is c, field-low q), omega (arith, f-is c, field-high q))
 
 returns-4 : tie.Need-returns-4
 returns-4 c =
     let d = c .before in
-    let e = d .before .before in
+    let e = fromF (d .before) in
     let l = e .before .before in
     rw (enough (startD d), fixed-right (l .before .before), lengths-right l, eq-eqb _ _ (code e), sym (whole d) ∙ c .if4 .taken)
 
 returns-5 : tie.Need-returns-5
 returns-5 c =
     let d = c .before in
-    let e = d .before .before in
+    let e = fromF (d .before) in
     let l = e .before .before in
     rw (enough (startD d), fixed-right (l .before .before), lengths-right l, eq-eqb _ _ (code e), sym (whole d) ∙ c .if4 .left)
 

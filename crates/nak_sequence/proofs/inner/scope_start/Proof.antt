@@ -3,7 +3,7 @@ use native.Mathlib.Omega.{arith}
 use Prim.Native.Nat.{_-_}
 use mathlib.Core.Path.{_∙_}
 use borrow.Author.Needs.{needs}
-use Rattle.nak_sequence.specs.Entries.{entriesIn}
+use Rattle.sequence.specs.Entries.{entriesIn}
 use Rattle.nak_sequence.proofs.Listed.{start-behind}
 use Rattle.nak_sequence.proofs.inner.scope_start.Statement.{statement}
 use Rattle.nak_sequence.proofs.inner.scope_start.Tie as tie

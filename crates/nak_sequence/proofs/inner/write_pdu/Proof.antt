@@ -11,9 +11,9 @@ use Rattle.nak.specs.Pdu.{Nak, saying, pdu}
 use Rattle.nak.specs.Inner as writer
 use Rattle.nak.specs.declared.Identity.{Identity}
 use Rattle.ranges.specs.Range.{Range}
-use Rattle.octets.specs.declared.LargeFileFlag.{LargeFileFlag}
+use Rattle.nak.specs.declared.Form.{Form}
 use Rattle.reception.specs.declared.Reception.{Reception}
-use Rattle.nak_sequence.specs.Entries.{askingFor, entriesIn, scopeStart, lastEndOf, nakAt}
+use Rattle.sequence.specs.Entries.{askingFor, entriesIn, scopeStart, lastEndOf, nakAt}
 use Rattle.nak_sequence.specs.Inner.{entryCount}
 use Rattle.nak_sequence.proofs.Listed.{first-nak, later-nak, known-nak, few-first, few-later, few-known}
 use Rattle.nak_sequence.proofs.inner.write_pdu.Statement.{statement}
@@ -62,14 +62,14 @@ within s = begin s .pre .0 .1 .1 .1 .1
 
 -- the PDU from entry f on is the one that `write_at` is asked for
 abbrev there : tie.After-smaller → Nak
-there s = nakAt (askingFor (rec s) (xs s) (begin s .args .flag) (begin s .args .identity) (k s)) (f s)
+there s = nakAt (askingFor (rec s) (xs s) (begin s .args .form) (begin s .args .identity) (k s)) (f s)
 
 abbrev said : (s : tie.After-smaller) → List Range → Nak
-said s es = saying (begin s .args .flag) (begin s .args .identity) (from s) (to s) es
+said s es = saying (begin s .args .form) (begin s .args .identity) (from s) (to s) es
 
 module _ (s : tie.After-smaller) where
-  abbrev g : LargeFileFlag
-  g = begin s .args .flag
+  abbrev g : Form
+  g = begin s .args .form
 
   abbrev d : Identity
   d = begin s .args .identity

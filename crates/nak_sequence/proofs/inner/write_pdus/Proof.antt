@@ -4,28 +4,29 @@ use native.Mathlib.Omega.{arith}
 use Prim.Native.Nat.{_-_}
 use mathlib.Core.Path.{_≡_}
 use Rattle.nak_sequence.specs.Inner.{entryCount}
-use Rattle.nak_sequence.specs.Entries.{askingFor}
+use Rattle.sequence.specs.Entries.{askingFor}
+use Rattle.sequence.proofs.Together.{begins-before}
 use Rattle.nak_sequence.proofs.Listed.{count-le}
-use Rattle.nak_sequence.proofs.Chain.{begins-before, Done, done-begin, done-room, done-step}
+use Rattle.nak_sequence.proofs.Chain.{Done, done-begin, done-room, done-step}
 use Rattle.nak_sequence.proofs.inner.write_pdus.Statement.{statement}
 use Rattle.nak_sequence.proofs.inner.write_pdus.Tie as tie
 
 abbrev Inv-loop : tie.InvT-loop
-Inv-loop buf₀ rec list identity flag k from pdus at₀ f₀ n₀ buf at f n =
-    Done (askingFor rec list flag identity k) from pdus buf₀ buf at f n
+Inv-loop buf₀ rec list identity form k from pdus at₀ f₀ n₀ buf at f n =
+    Done (askingFor rec list form identity k) from pdus buf₀ buf at f n
 
 abbrev μ-loop : tie.MeasureT-loop
-μ-loop buf₀ rec list identity flag k from pdus at₀ f₀ n₀ buf at f n = pdus - n
+μ-loop buf₀ rec list identity form k from pdus at₀ f₀ n₀ buf at f n = pdus - n
 
 loop-holds : tie.Need-loop-holds Inv-loop μ-loop
 loop-holds c = let a = c .before .before .args in
-    done-begin (askingFor (a .rec) (a .list .now) (a .flag) (a .identity) (a .k)) (a .from) (a .pdus) (a .buf .now)
+    done-begin (askingFor (a .rec) (a .list .now) (a .form) (a .identity) (a .k)) (a .from) (a .pdus) (a .buf .now)
 
 write-pdu-requires : tie.Need-write-pdu-requires Inv-loop μ-loop
 write-pdu-requires c κs = let l = c .before .before .loop in
     let q = c .before .before .before .before .before in
     let a = q .args in
-    let o = askingFor (a .rec) (a .list .now) (a .flag) (a .identity) (a .k) in
+    let o = askingFor (a .rec) (a .list .now) (a .form) (a .identity) (a .k) in
     let t = begins-before (entryCount (a .rec)) (a .from) (a .k) (l .n) (omega arith) (omega arith) in
     ((q .pre .0 .0, (q .pre .0 .1 .0, (omega arith, (omega arith, omega (arith, l .inv .entry))))), done-room o (a .from) (a .pdus) (a .buf .now) (l .buf) (l .at) (l .f) (l .n) (l .inv) (c .before .loop-test .taken) (q .pre .1))
 
@@ -45,7 +46,7 @@ loop-again : tie.Need-loop-again Inv-loop μ-loop
 loop-again c = let l = c .before .before .before .before .before .loop in
     let q = c .before .before .before .before .before .before .before .before in
     let a = q .args in
-    let o = askingFor (a .rec) (a .list .now) (a .flag) (a .identity) (a .k) in
+    let o = askingFor (a .rec) (a .list .now) (a .form) (a .identity) (a .k) in
     let w = c .before .before .write-pdu .ensures in
     done-step o (a .from) (a .pdus) (a .buf .now) (l .buf) (l .at) (l .f) (l .n) (l .inv) (c .before .before .before .before .loop-test .taken) (q .pre .1) _ _ (w .0) (w .1)
 

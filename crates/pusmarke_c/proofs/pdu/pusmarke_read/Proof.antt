@@ -15,7 +15,7 @@ flag-out-requires : tie.Need-flag-out-requires
 flag-out-requires c κs = search needs
 
 returns : tie.Need-returns
-returns c = rw (c .flag-out .ensures, c .before .identity-out .ensures) (ap nakOut (c .before .before .before .parse .ensures))
+returns c = rw (c .flag-out .ensures, c .before .identity-out .ensures) (ap nakOut (c .before .before .before .before .parse .ensures))
 
 pub pusmarke-read-spec : {M : Type 1} → statement M
 pusmarke-read-spec =

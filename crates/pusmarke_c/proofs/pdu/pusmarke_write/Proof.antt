@@ -8,8 +8,8 @@ use Rattle.pusmarke_c.proofs.pdu.pusmarke_write.Tie as tie
 identity-in-requires : tie.Need-identity-in-requires
 identity-in-requires c κs = search needs
 
-flag-in-requires : tie.Need-flag-in-requires
-flag-in-requires c κs = search needs
+form-in-requires : tie.Need-form-in-requires
+form-in-requires c κs = search needs
 
 write-requires : tie.Need-write-requires
 write-requires c κs = search needs
@@ -23,16 +23,16 @@ same-length c = search needs
 returns : tie.Need-returns
 returns c =
     let own = c .before .before .before .before .before .before .identity-in .ensures in
-    let flag = c .before .before .before .before .before .flag-in .ensures in
+    let form = c .before .before .before .before .before .form-in .ensures in
     let said = c .before .before .before .write .ensures in
-    (c .of-write .ensures ∙ ap answerOf (rw (own, flag) at (said .0)), rw (own, flag) at (said .1))
+    (c .of-write .ensures ∙ ap answerOf (rw (own, form) at (said .0)), rw (own, form) at (said .1))
 
 pub pusmarke-write-spec : {M : Type 1} → statement M
 pusmarke-write-spec =
     tie.close
     (tie.spec
     identity-in-requires
-    flag-in-requires
+    form-in-requires
     write-requires
     of-write-requires
     same-length

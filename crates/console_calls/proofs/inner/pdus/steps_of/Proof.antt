@@ -4,7 +4,7 @@ use native.Mathlib.Omega.{arith}
 use Prim.Native.Nat.{_*_}
 use lib.ListN.{length}
 use borrow.Author.Needs.{needs}
-use Rattle.nak_sequence.proofs.Sizes.{field-low, field-high}
+use Rattle.nak.proofs.Room.{field-low, field-high}
 use Rattle.console_calls.proofs.inner.pdus.steps_of.Statement.{statement}
 use Rattle.console_calls.proofs.inner.pdus.steps_of.Tie as tie
 
@@ -14,13 +14,13 @@ field-length-requires c κs = search needs
 mul-result : tie.Need-mul-result
 mul-result c =
     let e = c .field-length .ensures in
-    let h = field-high (c .before .before .args .flag) in
+    let h = field-high (c .before .before .args .form .flag) in
     omega arith
 
 div-result : tie.Need-div-result
 div-result c =
     let e = c .field-length .ensures in
-    let l = field-low (c .before .before .args .flag) in
+    let l = field-low (c .before .before .args .form .flag) in
     omega arith
 
 add-result : tie.Need-add-result

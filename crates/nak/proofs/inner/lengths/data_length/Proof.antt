@@ -12,14 +12,14 @@ use Rattle.nak.proofs.inner.lengths.data_length.Tie as tie
 abbrev numbers : tie.After-field-length → ℕ
 numbers c = 2 + c .before .args .numbers
 
-octets : (c : tie.After-field-length) → c .field-length .result * numbers c ≡ fieldLength (c .before .args .flag) * numbers c
+octets : (c : tie.After-field-length) → c .field-length .result * numbers c ≡ fieldLength (c .before .args .form .flag) * numbers c
 octets c = ap (λ (f : ℕ). f * numbers c) (c .field-length .ensures)
 
 field-length-requires : tie.Need-field-length-requires
 field-length-requires c κs = search needs
 
 add-result : tie.Need-add-result
-add-result c = omega (arith, c .before .pre, data-low (c .before .args .flag) (numbers c))
+add-result c = omega (arith, c .before .pre, data-low (c .before .args .form .flag) (numbers c))
 
 mul-result : tie.Need-mul-result
 mul-result c = omega (arith, c .before .pre, octets c)

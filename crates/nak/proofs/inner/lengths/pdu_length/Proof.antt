@@ -9,8 +9,8 @@ use Rattle.nak.proofs.inner.lengths.pdu_length.Statement.{statement}
 use Rattle.nak.proofs.inner.lengths.pdu_length.Tie as tie
 
 -- the octets of the numbers are few
-high : (s : tie.Start) → fieldLength (s .args .flag) * (2 + s .args .numbers) ≤ 65552
-high s = f-high (s .args .flag) (2 + s .args .numbers) refl (omega (arith, s .pre))
+high : (s : tie.Start) → fieldLength (s .args .form .flag) * (2 + s .args .numbers) ≤ 65552
+high s = f-high (s .args .form .flag) (2 + s .args .numbers) refl (omega (arith, s .pre))
 
 header-length-requires : tie.Need-header-length-requires
 header-length-requires c κs = search needs

@@ -25,7 +25,7 @@ flag-bit-requires : tie.Need-flag-bit-requires
 flag-bit-requires c κs = search needs
 
 add-put : tie.Need-add-put
-add-put c = omega (arith, flag-low (c .before .before .before .args .flag), c .flag-bit .ensures)
+add-put c = omega (arith, flag-low (c .before .before .before .args .form .flag), c .flag-bit .ensures)
 
 put-requires : tie.Need-put-requires
 put-requires c κs = search needs
@@ -70,7 +70,7 @@ returns c =
     let p1 = from2 p2 in
     let s = start p1 in
     let octet0 = ap (λ (v : ℕ). fixed0 + v) (p1 .before .flag-bit .ensures) in
-    header-puts (s .args .buf .now) (s .args .at) (s .args .flag) (s .args .i) (s .args .q) (s .args .len)
+    header-puts (s .args .buf .now) (s .args .at) (s .args .form) (s .args .i) (s .args .q) (s .args .len)
     octet0
     (p2 .before .wide .ensures)
     (p3 .before .wide2 .ensures ∙ omega arith)

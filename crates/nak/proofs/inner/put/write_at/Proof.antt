@@ -15,7 +15,7 @@ use Rattle.nak.proofs.inner.put.write_at.Tie as tie
 
 -- what the PDU says, how many numbers its requests have, and so its lengths
 abbrev nak : tie.Start → Nak
-nak s = saying (s .args .flag) (s .args .identity) (s .args .start) (s .args .end) (entries (s .args .metadata) (s .args .requests .now) (s .args .first) (s .args .count))
+nak s = saying (s .args .form) (s .args .identity) (s .args .start) (s .args .end) (entries (s .args .metadata) (s .args .requests .now) (s .args .first) (s .args .count))
 
 abbrev numbers : tie.Start → ℕ
 numbers s = length (flat (asked (s .args .metadata))) + 2 * s .args .count
@@ -23,18 +23,18 @@ numbers s = length (flat (asked (s .args .metadata))) + 2 * s .args .count
 entered : (s : tie.Start) → length (flat (nak s .requests)) ≡ numbers s
 entered s = length-entries (s .args .metadata) (s .args .requests .now) (s .args .first) (s .args .count) (s .pre .1)
 
-data-is : (s : tie.Start) → dataLength (fieldLength (s .args .flag)) (numbers s) ≡ length (dataField (nak s))
-data-is s = sym (length-data (fieldLength (s .args .flag)) (nak s .scope) (nak s .requests) ∙ ap (dataLength (fieldLength (s .args .flag))) (entered s))
+data-is : (s : tie.Start) → dataLength (fieldLength (s .args .form .flag)) (numbers s) ≡ length (dataField (nak s))
+data-is s = sym (length-data (fieldLength (s .args .form .flag)) (nak s .scope) (nak s .requests) ∙ ap (dataLength (fieldLength (s .args .form .flag))) (entered s))
 
-total : (s : tie.Start) → pduLength (s .args .flag) (s .args .identity) (numbers s) ≡ length (pdu (nak s))
-total s = ap (pduLength (s .args .flag) (s .args .identity)) (sym (entered s)) ∙ pdu-length (nak s)
+total : (s : tie.Start) → pduLength (s .args .form) (s .args .identity) (numbers s) ≡ length (pdu (nak s))
+total s = ap (pduLength (s .args .form) (s .args .identity)) (sym (entered s)) ∙ pdu-length (nak s)
 
 -- there is room
-room : (s : tie.Start) → s .args .at + pduLength (s .args .flag) (s .args .identity) (numbers s) ≤ length (s .args .buf .now)
+room : (s : tie.Start) → s .args .at + pduLength (s .args .form) (s .args .identity) (numbers s) ≤ length (s .args .buf .now)
 room s = omega (arith, total s, s .pre .2)
 
 few : (s : tie.Start) → s .args .at + (4 + numbers s) ≤ length (s .args .buf .now)
-few s = omega (arith, room s, data-low (s .args .flag) (2 + numbers s))
+few s = omega (arith, room s, data-low (s .args .form .flag) (2 + numbers s))
 
 -- how many numbers the code counts
 abbrev startA : tie.After-asked-numbers → tie.Start
@@ -50,10 +50,10 @@ startD c = startA (c .before)
 abbrev len : tie.After-data-length → ℕ
 len c = c .data-length .result
 
-len-is : (c : tie.After-data-length) → len c ≡ dataLength (fieldLength (startD c .args .flag)) (numbers (startD c))
-len-is c = c .data-length .ensures ∙ ap (dataLength (fieldLength (startD c .args .flag))) (counted (c .before))
+len-is : (c : tie.After-data-length) → len c ≡ dataLength (fieldLength (startD c .args .form .flag)) (numbers (startD c))
+len-is c = c .data-length .ensures ∙ ap (dataLength (fieldLength (startD c .args .form .flag))) (counted (c .before))
 
-f-is : (c : tie.After-data-length) → c .before .before .field-length .result ≡ fieldLength (startD c .args .flag)
+f-is : (c : tie.After-data-length) → c .before .before .field-length .result ≡ fieldLength (startD c .args .form .flag)
 f-is c = c .before .before .field-length .ensures
 
 -- the place behind the header
@@ -82,7 +82,7 @@ add-data-length c = omega (arith, counted c, few (startA c))
 data-length-requires : tie.Need-data-length-requires
 data-length-requires c κs =
     let s = startA c in
-    let e = ap (dataLength (fieldLength (s .args .flag))) (counted c) in
+    let e = ap (dataLength (fieldLength (s .args .form .flag))) (counted c) in
     omega (arith, e, room s)
 
 put-header-requires : tie.Need-put-header-requires

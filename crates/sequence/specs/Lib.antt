@@ -1,0 +1,4 @@
+pub mod Entries
+pub mod Sequence
+pub mod Calls
+pub mod Parted
