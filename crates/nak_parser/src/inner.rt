@@ -6,12 +6,13 @@ use octets::LargeFileFlag;
 use octets::inner::get;
 use outcomes::Refusal;
 use outcomes::Verdict;
+use outcomes::in_numbers;
 ghost use mathlib.Core.Path.{_≡_};
 ghost use mathlib.Core.List.{[], _∷_};
 ghost use Prim.Native.Nat.{_+_, _*_, _-_, _≤_, _<_};
 ghost use lib.ListN.{length, take, drop};
 ghost use denote.Ref.{ptr};
-ghost use Rattle.outcomes.specs.Outcome.{accepted, refused as outcomeOf};
+ghost use Rattle.outcomes.specs.Outcome.{accepted};
 ghost use Rattle.outcomes.specs.Refusal.{refusing};
 ghost use Rattle.outcomes.specs.Checks.{firstOf, verdictCase};
 ghost use Rattle.nak.specs.Header.{wrongFixed, flagOf, formOf};
@@ -169,13 +170,14 @@ pub fn check_packet(packet: &[u8], from: usize, f: usize, count: usize) -> Verdi
 }
 
 // What is handed back of a refused packet: the number, and the start and end that it carries.
-fn refused_by(number: u64, start: u64, end: u64, length: usize) -> Parsed
-    ensures { λ r. ⌜ r ≡ refusedParsed (outcomeOf number (start ∷ end ∷ [])) length ⌝ }
+pub fn refused(r: Refusal, length: usize) -> Parsed
+    ensures { λ p. ⌜ p ≡ refusedParsed (refusing r) length ⌝ }
 {
+    let n = in_numbers(r);
     Parsed {
-        refusal: number,
-        start,
-        end,
+        refusal: n.number,
+        start: n.first,
+        end: n.second,
         identity: Identity {
             entity_length: 0,
             number_length: 0,
@@ -191,40 +193,6 @@ fn refused_by(number: u64, start: u64, end: u64, length: usize) -> Parsed
         from: 0,
         to: 0,
         next: length,
-    }
-}
-
-// The same by the refusal.
-pub fn refused(r: Refusal, length: usize) -> Parsed
-    ensures { λ p. ⌜ p ≡ refusedParsed (refusing r) length ⌝ }
-{
-    match r {
-        Refusal::StoreFull => refused_by(1, 0, 0, length),
-        Refusal::EmptySegment => refused_by(2, 0, 0, length),
-        Refusal::StartLargerThanEnd(s, e) => refused_by(3, s, e, length),
-        Refusal::LargeFileSegmentNotSupported => refused_by(4, 0, 0, length),
-        Refusal::InvalidSegmentBoundary(s, e) => refused_by(5, s, e, length),
-        Refusal::BufferSizeMissmatch(needed, given) => refused_by(
-            6,
-            needed as u64,
-            given as u64,
-            length,
-        ),
-        Refusal::LargeSegmentForNormalFileSize => refused_by(7, 0, 0, length),
-        Refusal::NotCoalesced => refused_by(8, 0, 0, length),
-        Refusal::RangeTooLong => refused_by(9, 0, 0, length),
-        Refusal::BadStore => refused_by(10, 0, 0, length),
-        Refusal::BadCursor => refused_by(11, 0, 0, length),
-        Refusal::ScopeBelowList => refused_by(12, 0, 0, length),
-        Refusal::BadIdentity => refused_by(13, 0, 0, length),
-        Refusal::PduSize => refused_by(14, 0, 0, length),
-        Refusal::BadHeader => refused_by(15, 0, 0, length),
-        Refusal::LengthMismatch => refused_by(16, 0, 0, length),
-        Refusal::NotNak => refused_by(17, 0, 0, length),
-        Refusal::ScopeReversed => refused_by(18, 0, 0, length),
-        Refusal::AlreadyKnown => refused_by(19, 0, 0, length),
-        Refusal::BudgetTooLarge => refused_by(20, 0, 0, length),
-        Refusal::FileSizeError => refused_by(22, 0, 0, length),
     }
 }
 

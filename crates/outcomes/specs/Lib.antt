@@ -1,3 +1,4 @@
 pub mod Outcome
 pub mod Refusal
 pub mod Checks
+pub mod Told
