@@ -15,7 +15,7 @@
 #define ROUNDS 101
 
 struct pusmarke_answer { uint64_t refusal, first, second, third; };
-struct pusmarke_reception { uint64_t progress; size_t count; uint64_t narrow, missing; };
+struct pusmarke_reception { uint64_t progress; size_t count; uint64_t narrow, missing, sized, size; };
 struct pusmarke_identity { size_t entity_length, number_length; uint64_t source, number, destination; };
 struct pusmarke_nak {
     uint64_t refusal, start, end;
@@ -33,6 +33,7 @@ struct pusmarke_answer pusmarke_segment_in_store(const uint64_t *, size_t, size_
 struct pusmarke_answer pusmarke_write_segments_to_bytes(
     const uint64_t *, size_t, size_t, uint64_t, uint64_t, uint8_t *, size_t);
 struct pusmarke_answer pusmarke_data(struct pusmarke_reception *, uint64_t *, size_t, uint64_t, uint64_t);
+struct pusmarke_answer pusmarke_eof(struct pusmarke_reception *, uint64_t *, size_t, uint64_t);
 struct pusmarke_answer pusmarke_nak_sequence(
     struct pusmarke_reception, const uint64_t *, size_t, struct pusmarke_identity, uint64_t, size_t, size_t,
     size_t, uint8_t *, size_t);
@@ -53,7 +54,10 @@ void *rust_handler(const uint64_t *, size_t, uint64_t, size_t);
 void rust_handler_free(void *);
 size_t rust_handler_list(const void *, uint64_t *);
 uint64_t rust_handler_progress(const void *);
+uint64_t rust_handler_size(const void *);
+void rust_handler_coalesce(void *);
 uint64_t rust_data(void *, uint64_t, const uint8_t *, size_t);
+uint64_t rust_eof(void *, uint64_t);
 uint64_t rust_sequence(void *);
 size_t rust_sent(const void *, uint8_t *);
 
@@ -206,8 +210,8 @@ static void sort(size_t n)
     same(memcmp(list, other, sizeof list) == 0, "sort");
 }
 
-// Add, insert, the split and data that opens a hole start from n - 1 ranges, since 4,096 is the most; the
-// others start from n.
+// Add, insert, the split, data that opens a hole and the end of file start from n - 1 ranges, since 4,096 is
+// the most; the others start from n.
 static void add(size_t n)
 {
     uint64_t s = start_of(n - 1), e = end_of(n - 1);
@@ -305,7 +309,7 @@ static uint64_t progress_of(size_t n) { return end_of(n - 1) + 5; }
 
 static void data_event(size_t n, uint64_t offset, uint64_t octets_of_data)
 {
-    struct pusmarke_reception record = { progress_of(n), n, narrow, 0 };
+    struct pusmarke_reception record = { progress_of(n), n, narrow, 0, 0, 0 };
     ascending(n);
     void *handler = rust_handler(list, n, record.progress, LARGEST);
     BOTH(answer = pusmarke_data(&record, list, NUMBERS, offset, octets_of_data),
@@ -320,6 +324,25 @@ static void data_event(size_t n, uint64_t offset, uint64_t octets_of_data)
 static void data_in_order(size_t n) { data_event(n, progress_of(n), 1000); }
 static void data_opens(size_t n) { data_event(n - 1, progress_of(n - 1) + 100, 1000); }
 static void data_fills(size_t n) { data_event(n, start_of(n / 2), end_of(n / 2) - start_of(n / 2)); }
+
+// The end of file, 100 octets past progress. The Rust leaves its progress and never joins: its list is coalesced before it is compared.
+static void eof_at(size_t n, uint64_t progress)
+{
+    struct pusmarke_reception record = { progress, n, narrow, 0, 0, 0 };
+    ascending(n);
+    void *handler = rust_handler(list, n, progress, LARGEST);
+    BOTH(answer = pusmarke_eof(&record, list, NUMBERS, progress + 100), said = rust_eof(handler, progress + 100));
+    rust_handler_coalesce(handler);
+    size_t left = rust_handler_list(handler, other);
+    same(answer.refusal == 0 && said == 0, "answer");
+    same(record.sized == 1 && record.size == progress + 100 && rust_handler_size(handler) == record.size, "size");
+    same(record.progress == record.size && rust_handler_progress(handler) == progress, "progress");
+    same(record.count == left && memcmp(list, other, 16 * left) == 0, "lists");
+    rust_handler_free(handler);
+}
+
+static void eof_apart(size_t n) { eof_at(n - 1, progress_of(n - 1)); }
+static void eof_joins(size_t n) { eof_at(n - 1, end_of(n - 2)); }
 
 static const struct pusmarke_identity identity = { 1, 1, 1, 7, 2 };
 
@@ -344,7 +367,7 @@ static uint64_t port_sequence(struct pusmarke_reception record)
 static void sequence(size_t n)
 {
     uint64_t pdus = 0;
-    struct pusmarke_reception record = { end_of(n - 1), n, narrow, 0 };
+    struct pusmarke_reception record = { end_of(n - 1), n, narrow, 0, 0, 0 };
     memset(octets, 0x5a, sizeof octets);
     ascending(n);
     void *handler = rust_handler(list, n, record.progress, LARGEST);
@@ -375,7 +398,7 @@ static uint64_t port_read(size_t total)
 
 static void read_pdu(size_t n)
 {
-    struct pusmarke_reception record = { end_of(n - 1), n, narrow, 0 };
+    struct pusmarke_reception record = { end_of(n - 1), n, narrow, 0, 0, 0 };
     uint64_t found = 0;
     ascending(n);
     port_sequence(record);
@@ -416,6 +439,8 @@ static const struct {
     { "data in order", ALL, data_in_order },
     { "data that opens a hole", ALL, data_opens },
     { "data that fills a hole", ALL, data_fills },
+    { "EOF, the tail apart", ALL, eof_apart },
+    { "EOF, the tail joins", ALL, eof_joins },
     { "NAK sequence", ALL, sequence },
     { "read one PDU", PORT, read_pdu },
 };

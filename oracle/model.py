@@ -1,5 +1,5 @@
 #!/usr/bin/env python3
-"""A model of the console, written from document 01, document 02's C-16 and C-19 and the console's language alone.
+"""A model of the console, written from document 01, document 02's C-14, C-16 and C-19 and the console's language alone.
 
     model.py [SCRIPT]      answers the script (or standard input) as the program must
     model.py --self-test   holds the interval algebra against plain sets of offsets
@@ -17,7 +17,7 @@ LINE = 65535
 
 
 class Refused(Exception):
-    """A refusal of document 01's table: its number and what it also carries."""
+    """A refusal of document 01's table, or one that document 02 adds: its number and what it also carries."""
 
     def __init__(self, number, *carried):
         self.words = [number, *carried]
@@ -71,6 +71,11 @@ def leaving(s, e, a, b):
     if stays_behind:
         return 'left'
     return 'right' if stays_before else 'whole'
+
+
+def noticed(progress):
+    """The list of a waiting record: nothing below progress is kept."""
+    return [(0, progress)] if progress else []
 
 
 def is_coalesced(pairs):
@@ -193,6 +198,7 @@ class Console:
         self.memory = [0] * MEMORY
         self.length, self.count, self.narrow = 2 * ranges, 0, narrow
         self.progress, self.missing = 0, True
+        self.size = None  # not known
 
     # What every call checks first, and what an accepted change leaves.
 
@@ -210,7 +216,9 @@ class Console:
         pairs = self.pairs()
         if self.narrow and self.progress > NARROW:
             raise Refused(10)
-        if self.missing and pairs != ([(0, self.progress)] if self.progress else []):
+        if self.missing and pairs != noticed(self.progress):
+            raise Refused(10)
+        if self.size is not None and self.progress != self.size:
             raise Refused(10)
         if not is_coalesced(pairs):
             raise Refused(8)
@@ -306,9 +314,11 @@ class Console:
             raise Refused(9)
         if self.narrow and end > NARROW:
             raise Refused(4)
+        if self.size is not None and end > self.size:
+            raise Refused(22)
         progress = max(self.progress, end)
         if self.missing:
-            left = [(0, progress)]
+            left = noticed(progress)
         else:
             left = runs(minus(pairs, offset, end) + [(self.progress, offset)])
         if len(left) > self.capacity():
@@ -316,6 +326,20 @@ class Console:
         self.put(left)
         self.progress = progress
         return f'{"noticed" if self.missing else "kept"} {self.count} {self.progress}'
+
+    def eof(self, size):
+        """The end of file: all from progress up to the size is missing too."""
+        pairs = self.record()
+        if self.narrow and size > NARROW:
+            raise Refused(4)
+        if size < self.progress or self.size is not None and size != self.size:
+            raise Refused(22)
+        left = noticed(size) if self.missing else runs(pairs + [(self.progress, size)])
+        if len(left) > self.capacity():
+            raise Refused(1)
+        self.put(left)
+        self.progress = self.size = size
+        return f'ended {self.count} {self.progress}'
 
     def metadata(self):
         self.record()
@@ -355,6 +379,7 @@ class Console:
     def show(self):
         mark = f'{"narrow" if self.narrow else "wide"} {self.length} {self.count} {self.progress}'
         mark += ' missing' if self.missing else ' known'
+        mark += ' open' if self.size is None else f' {self.size}'
         return ' '.join([mark, *map(str, self.memory[:2 * min(self.count, MEMORY // 2)])])
 
     def command(self, words):
@@ -373,15 +398,18 @@ class Console:
             self.memory[at:at + len(values)] = values
             return 'ok'
         if name == 'load':
-            need(3)
+            need(4)
             progress, missing, count = number(rest[0]), choice(rest[1], 'known', 'missing'), number(rest[2])
-            self.progress, self.missing, self.count = progress, missing, count
+            size = None if rest[3] == 'open' else number(rest[3])
+            self.progress, self.missing, self.count, self.size = progress, missing, count, size
             return 'ok'
         if name == 'lend':
             need(1)
             self.length = number(rest[0], MEMORY)
             return 'ok'
         if name == 'new':
+            if rest[:1] == ['pairs']:
+                rest = rest[1:]
             need(2)
             narrow, ranges = choice(rest[0], 'wide', 'narrow'), number(rest[1], 4096)
             self.begin(narrow, ranges)
@@ -395,6 +423,9 @@ class Console:
         if name in ('add', 'insert', 'remove', 'within', 'data'):
             need(2)
             return getattr(self, name)(number(rest[0]), number(rest[1]))
+        if name == 'eof':
+            need(1)
+            return self.eof(number(rest[0]))
         if name in ('coalesce', 'metadata'):
             need(0)
             return getattr(self, name)()
@@ -496,6 +527,39 @@ def insertion_of_sets(members, a, b, capacity):
     return f'inserted {len(left)}', left
 
 
+def after(event, pairs, progress, size, missing, capacity):
+    """What the console answers to an event on this record, and the list, progress and size that it leaves."""
+    console = Console()
+    console.begin(False, capacity)
+    console.put(pairs)
+    console.progress, console.size, console.missing = progress, size, missing
+    [answer] = console.line(1, event)
+    return answer, console.pairs(), console.progress, console.size
+
+
+def end_of_sets(members, progress, size, missing, capacity, z):
+    """C-14 said of sets, the size known or not: what was missing, and every offset from progress on that is below z."""
+    held = set(range(progress)) - members
+    if z < progress or size is not None and z != size:
+        return 'refused 22', spans(members), progress, size
+    left = spans(set(range(z)) - held)
+    if len(left) > capacity:
+        return 'refused 1', spans(members), progress, size
+    return f'ended {len(left)} {z}', left, z, z
+
+
+def data_of_sets(members, progress, size, missing, capacity, a, b):
+    """The data event said of sets: while waiting nothing is held; data past a known size is 22 (C-14)."""
+    held = set() if missing else set(range(progress)) - members | set(range(a, b))
+    if size is not None and b > size:
+        return 'refused 22', spans(members), progress, size
+    front = max(progress, b)
+    left = spans(set(range(front)) - held)
+    if len(left) > capacity:
+        return 'refused 1', spans(members), progress, size
+    return f'{"noticed" if missing else "kept"} {len(left)} {front}', left, front, size
+
+
 def self_test():
     import itertools
     small = [(s, e) for s in range(5) for e in range(5)]
@@ -517,15 +581,20 @@ def self_test():
                 said = told('insert', pairs, a, b, capacity)
                 assert said == insertion_of_sets(members, a, b, capacity), (pairs, a, b, capacity)
                 done += 1
-            for progress in range(pairs[-1][1] if pairs else 0, 9):
-                console = Console()
-                console.begin(False, 4096)
-                console.missing, console.progress = False, progress
-                console.put(pairs)
-                console.data(a, b - a)
-                kept = (members | set(range(progress, a))) - asked
-                assert console.pairs() == spans(kept) and console.progress == max(progress, b)
-                done += 1
+    for bits in range(2**6):
+        members = {x for x in range(6) if bits >> x & 1}
+        for progress, sized in itertools.product(range(bits.bit_length(), 8), (False, True)):
+            waiting = (True,) if members == set(range(progress)) else ()
+            for missing, room in itertools.product((False, *waiting), (0, 1)):
+                pairs, size = spans(members), progress if sized else None
+                record = progress, size, missing, len(pairs) + room
+                for z in range(10):
+                    assert after(f'eof {z}', pairs, *record) == end_of_sets(members, *record, z), (pairs, record, z)
+                    done += 1
+                for a, b in itertools.combinations(range(10), 2):
+                    said = after(f'data {a} {b - a}', pairs, *record)
+                    assert said == data_of_sets(members, *record, a, b), (pairs, record, a, b)
+                    done += 1
     print(f'self-test: {done} cases agree with sets of offsets')
 
 

@@ -70,6 +70,32 @@ RECEPTION_EXAMPLES = [
     'new wide 4', *set_list([(0, 5)], 6), 'metadata', 'data 1 1', *set_list([(0, 6)], 6), 'data 1 1', 'metadata', 'show',
 ]
 
+EOF_EXAMPLES = [
+    '# Document 02, C-14: the tail becomes missing and joins a range that ends at progress; the same size again, another; data at and past it.',
+    'new wide 2', 'metadata', 'data 0 100', 'data 200 100', 'show', 'eof 400', 'show', 'eof 400', 'show', 'eof 401', 'eof 399', 'eof 0',
+    'data 399 1', 'data 400 1', 'data 399 2', 'show', 'data 300 99', 'show', 'data 100 100', 'show', 'eof 400', 'show',
+    'new wide 2', 'metadata', 'data 100 100', 'data 300 100', 'show', 'eof 400', 'show',
+    'new wide 1', 'metadata', 'data 100 100', 'eof 199', 'eof 201', 'show', 'eof 200', 'show',
+    'new wide 1', *set_list([(0, 200)], 200, 'known'), 'eof 300', 'show', 'data 100 1', 'data 0 100', 'show', 'metadata',
+    '# While waiting: the list is (0, z), empty at z = 0; capacity 0; the metadata late; the size first, between and last.',
+    'new wide 1', 'eof 100', 'show', 'data 20 10', 'show', 'data 90 11', 'eof 100', 'eof 99', 'eof 101', 'metadata', 'show', 'eof 100',
+    'data 0 100', 'show', 'data 100 1', 'data 0 1', 'show',
+    'new wide 1', 'data 20 10', 'eof 29', 'eof 30', 'show', 'data 25 6', 'show', 'metadata', 'data 0 30', 'show',
+    'new wide 1', 'data 20 10', 'eof 40', 'show', 'nak 1 1 1 7 2 normal 64 0 16 1024', 'metadata', 'nak 1 1 1 7 2 normal 64 0 16 1024',
+    'new wide 0', 'eof 1', 'show', 'eof 0', 'show', 'eof 0', 'eof 1', 'data 0 1', 'show', 'metadata', 'eof 0', 'eof 1', 'data 0 1', 'show',
+    'new wide 0', 'metadata', 'eof 1', 'eof 0', 'show', 'new wide 0', 'metadata', 'data 0 5', 'eof 6', 'eof 5', 'eof 5', 'show', 'data 0 6',
+    '# The narrow limit, before 22; sizes of 2^64 - 1.',
+    'new narrow 1', 'eof 4294967296', 'eof 4294967295', 'show', 'eof 4294967296', 'eof 4294967294', 'data 4294967294 2', 'data 0 4294967295',
+    'metadata', 'data 0 4294967295', 'show', 'eof 18446744073709551615', 'new wide 1', 'metadata', 'data 0 1', 'eof 18446744073709551615',
+    'show', 'data 18446744073709551614 1', 'data 18446744073709551615 1', 'eof 18446744073709551614', 'show',
+    '# A record whose size is not its progress: 10, before 8 and 12; where it is not known its number is not looked at.',
+    'new wide 4', *set_list([(1, 2)], 5, 'known', 4), 'eof 4', 'eof 5', 'data 0 1', 'metadata', 'nak 1 1 1 7 2 normal 24 0 16 384',
+    *set_list([(1, 2)], 5, 'known', 5), 'eof 5', 'data 0 1', 'metadata', 'nak 1 1 1 7 2 normal 24 0 16 384', 'show',
+    *set_list([(5, 6), (1, 2)], 9, 'known', 8), 'eof 9', 'data 0 1', 'metadata', *set_list([(1, 12)], 9, 'known', 8), 'eof 9', 'data 0 1',
+    *set_list([(0, 9)], 9, 'missing', 8), 'eof 9', 'data 0 1', 'metadata', *set_list([(0, 9)], 9, 'missing', 9), 'metadata', 'show',
+    'new pairs narrow 2', 'show', 'eof 7', 'show', 'new pairs wide 4096', 'show',
+]
+
 SEQUENCE_EXAMPLES = [
     '# Document 01, traced examples, in its order.',
     'new wide 8', *set_list([(0, 1), (2, 3), (4, 5), (6, 7), (8, 9)], 12, 'known'),
@@ -165,11 +191,21 @@ def codec(rng):
 
 
 def reception(rng):
-    out = list(RECEPTION_EXAMPLES)
+    out = RECEPTION_EXAMPLES + EOF_EXAMPLES
     small = list(scripts.blocks(scripts.events_small, 'sample'))
-    for block in rng.sample(small, 10) + list(scripts.records_edges(rng))[::2]:
+    for block in rng.sample(small, 10) + list(scripts.records_edges(rng))[::3]:
         out += block
     for generator, blocks in ((scripts.events_history, 8), (scripts.records_broken, 14)):
+        out += short(generator, blocks, 400)
+    out.append('# Each place of a size, known and waiting, full and with room, both widths.')
+    for block in list(scripts.eof_places(rng))[:24]:
+        out += block
+    out.append('# The end of file and data behind it: the order of the checks, slots, small records, histories.')
+    for width, *case in rng.sample(list(itertools.product(WIDTHS, scripts.eof_records(), scripts.EOF_EVENTS)), 300):
+        out += [words('new', width, 0), *scripts.eof_check(*case)]
+    for block in rng.sample(list(scripts.eof_slots(rng)), 60):
+        out += block
+    for generator, blocks in ((scripts.eof_small, 5), (scripts.eof_data_small, 5), (scripts.eof_history, 5)):
         out += short(generator, blocks, 400)
     return out
 
@@ -214,10 +250,10 @@ def console(rng):
 REACHED = {
     'store': {**scripts.RUST_REACH, **{name: scripts.REACH[name] - {8, 10} for name in ('insert', 'remove')}},
     'codec': {name: scripts.REACH[name] for name in ('write', 'read')},
-    'reception': {name: scripts.REACH[name] for name in ('data', 'metadata')},
-    'sequence': {'nak': scripts.REACH['nak'] - {8, 10, 12}},
+    'reception': {**{name: scripts.REACH[name] for name in ('data', 'metadata', 'eof')}, 'nak': scripts.UNEQUAL},
+    'sequence': {'nak': scripts.REACH['nak'] - scripts.UNEQUAL - {8, 10, 12}},
     'console': {**{name: {10} for name in ('add', 'coalesce', 'within', 'octets')}, 'insert': {8, 10}, 'remove': {8, 10},
-                'nak': {8, 10, 12}, 'data': {8, 10, 12}, 'metadata': {8, 10, 12, 19}},
+                'nak': {8, 10, 12}, 'data': {8, 10, 12}, 'metadata': {8, 10, 12, 19}, 'eof': {8, 10, 12}},
 }
 
 

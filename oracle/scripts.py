@@ -28,11 +28,11 @@ def words(*parts):
     return ' '.join(map(str, parts))
 
 
-def set_list(pairs, progress=0, mark='missing'):
-    """Lines that make these pairs the counted list."""
+def set_list(pairs, progress=0, mark='missing', size='open'):
+    """Lines that make these pairs the counted list, and the record what is said."""
     flat = [n for pair in pairs for n in pair]
     pokes = [words('poke', at, *flat[at:at + 3000]) for at in range(0, len(flat), 3000)]
-    return pokes + [words('load', progress, mark, len(pairs))]
+    return pokes + [words('load', progress, mark, len(pairs), size)]
 
 
 def spans(bits):
@@ -133,7 +133,7 @@ def insert_checks():
 
 
 def insert_check(pairs, length, count, s, e):
-    return [*set_list(pairs), words('lend', length), words('load', 0, 'known', count), words('insert', s, e),
+    return [*set_list(pairs), words('lend', length), words('load', 0, 'known', count, 'open'), words('insert', s, e),
             words('slots', 2 * len(pairs) + 2)]
 
 
@@ -363,7 +363,8 @@ def store_lists(rng):
 def store_broken(rng):
     """Stores that are none, for every store call: an odd length, more than 4,096 pairs, a count
     above the capacity, wide numbers in a narrow store (10); uncoalesced lists for remove and insert (8,
-    after 4, 2 and 3); slots past the count before and after a change."""
+    after 4, 2 and 3); slots past the count before and after a change; a size that is not progress, at which no
+    store call looks."""
     while True:
         width = rng.choice(WIDTHS)
         capacity = rng.choice((0, 1, 2, 3, 5, 4096))
@@ -374,7 +375,8 @@ def store_broken(rng):
             if rng.random() < 0.5:
                 block.append(words('lend', rng.choice((0, 1, 2, 3, 4, 7, 8, 10, 8191, 8192, 8193, 8194, 8200))))
             if rng.random() < 0.3:
-                block.append(words('load', 0, 'known', rng.choice((0, 1, 2, 3, 4096, 4097, 4100, 4101, 2**63, TOP))))
+                counts = (0, 1, 2, 3, 4096, 4097, 4100, 4101, 2**63, TOP)
+                block.append(words('load', 0, 'known', rng.choice(counts), rng.choice(('open', 'open', 0, 5))))
             for _ in range(4):
                 block.append(one_call(rng, rng.choice(EDGE[:10]), rng.choice(EDGE[:10]), len(pairs)))
             block += ['slots 12']
@@ -416,7 +418,7 @@ def events_history(rng):
         base = rng.choice((0, 0, 0, NARROW - 40 * step, TOP - 40 * step))
         late = rng.choice((0, 0, 0, 3, 20, 10**9))
         if base and late == 0 and rng.random() < 0.8:
-            block.append(words('load', base, 'known', 0))
+            block.append(words('load', base, 'known', 0, 'open'))
         front = base
         for at in range(rng.choice((20, 150, 400))):
             if at == late or rng.random() < 0.01:
@@ -442,6 +444,163 @@ def events_history(rng):
         yield block
 
 
+def eof_places(rng):
+    """The end of file and data at each place of a size, known and waiting, on lists that are empty, that the tail joins and that it
+    does not join, full and with room, the size open, known and not progress, near 0, 2^32 and the width's largest number, both
+    widths: ended, kept, noticed, 1, 10, 22 in every way that they can come; metadata and a sequence on each."""
+    for base, width in ((0, 'wide'), (0, 'narrow'), (NARROW - 90, 'narrow'), (NARROW - 40, 'wide'), (TOP - 90, 'wide')):
+        p = base + 50
+        lists = [('known', p, []), ('known', p, [(p - 40, p - 30)]), ('known', p, [(p - 40, p - 30), (p - 20, p)]), ('missing', p, [(0, p)])]
+        if base == 0:
+            lists += [('known', 0, []), ('missing', 0, [])]
+        for (mark, progress, pairs), room in itertools.product(lists, (0, 1)):
+            block = [words('new', width, len(pairs) + room)]
+            ends = [max(0, progress - 1), progress, progress + 1, progress + 9]
+            events = [words('eof', z) for z in ends] + [words('data', max(0, z - 5), min(z, 5)) for z in ends[:3]]
+            events += [words('data', max(0, progress - 37), 2), 'metadata', 'nak 1 1 1 7 2 large 64 0 2 128']
+            for size, event in itertools.product(('open', progress, progress + 1), events):
+                block += [*set_list(pairs, progress, mark, size), 'show', event, 'show']
+            yield block
+
+
+def sound_records(most):
+    """(pairs, progress, mark) of every sound record of the offsets below 5 with a progress up to `most`."""
+    for bits in range(2**5):
+        for progress in range(bits.bit_length(), most + 1):
+            yield spans(bits), progress, 'known'
+    for progress in range(most + 1):
+        yield [(0, progress)] if progress else [], progress, 'missing'
+
+
+def shuffled(rng, *choices):
+    """Every way to take one of each of the choices, in random order: so a short run has something of all."""
+    every = list(itertools.product(*choices))
+    rng.shuffle(every)
+    return every
+
+
+def eof_small(rng):
+    """The end of file, every size from 0 to 8, known on every coalesced list of the offsets 0 to 4 and every progress to 6,
+    and waiting at every progress to 6; full and with room for one more, the size open and known, both widths; then the same
+    size again and another: ended, 1, 22."""
+    for width, room, (pairs, progress, mark) in shuffled(rng, WIDTHS, (0, 1), sound_records(6)):
+        block = [words('new', width, len(pairs) + room)]
+        for size, z in itertools.product(('open', progress), range(9)):
+            block += [*set_list(pairs, progress, mark, size), 'show', words('eof', z), 'show', words('eof', z), 'show',
+                      words('eof', z + 1), 'show']
+        yield block
+
+
+def eof_data_small(rng):
+    """Data once the size is known, every offset from 0 to 7 and length from 0 to 3, on every record of eof_small, full and with
+    room for one more, both widths: below the size, at it and past it: kept, noticed, 1, 2, 22."""
+    for width, room, (pairs, progress, mark) in shuffled(rng, WIDTHS, (0, 1), sound_records(6)):
+        block = [words('new', width, len(pairs) + room)]
+        for offset, length in itertools.product(range(8), range(4)):
+            block += [*set_list(pairs, progress, mark, progress), 'show', words('data', offset, length), 'show']
+        yield block
+
+
+def eof_records():
+    """(length, pairs, count, progress, mark, size) of every record of eof_checks: sound ones, and such as fail one or two of the
+    checks of a record."""
+    above = NARROW + 1
+    lists = [[], [(10, 20)], [(10, 20), (30, 40)], [(10, 20), (30, 50)], [(30, 40), (10, 20)], [(10, 20), (20, 40)], [(10, 10)],
+             [(0, 50)], [(0, 40)], [(20, 10), (30, 40)], [(30, 60), (10, 20)], [(10, 20), (30, above)]]
+    for pairs, room, mark in itertools.product(lists, (0, 1), ('known', 'missing')):
+        n = len(pairs)
+        for progress in (0, 45, 50, NARROW, above):
+            for size in ('open', progress, 0, 45, 50, above):
+                yield 2 * (n + room), pairs, n, progress, mark, size
+        for length, count in ((2 * n + 1, n), (2 * n, n + 1), (8194, n)):
+            yield length, pairs, count, 50, mark, ('open', 50, 60)[n % 3]
+
+
+EOF_EVENTS = [*(words('eof', z) for z in (0, 44, 45, 49, 50, 51, 60, NARROW, NARROW + 1, TOP)),
+              *(words('data', *of) for of in ((0, 0), (60, 0), (10, 10), (15, 2), (49, 1), (49, 2), (50, 1), (60, 5), (0, NARROW),
+                                              (0, NARROW + 1), (TOP, 1), (TOP, 0))),
+              'metadata', 'nak 1 1 1 7 2 large 64 0 2 128']
+
+
+def eof_check(record, event):
+    """Lines that set such a record and try the event on it."""
+    length, pairs, count, progress, mark, size = record
+    return [*set_list(pairs, progress, mark, size), words('lend', length), words('load', progress, mark, count, size), 'show', event,
+            'slots 6']
+
+
+def eof_checks(rng):
+    """The order of the checks of the end of file, 10, 8, 12, 4, 22, 1, and of data once the size is known, 10, 8, 12, 2, 9, 4, 22, 1:
+    sizes and ranges that fail none, one or two of them on records that are sound, full, without capacity, or fail one or two of
+    theirs (10 of each kind, among them a size that is not progress, 8, 12); metadata and a sequence on each; both widths."""
+    every = shuffled(rng, WIDTHS, eof_records(), EOF_EVENTS)
+    for at in range(0, len(every), 20):
+        yield [line for width, *case in every[at:at + 20] for line in (words('new', width, 0), *eof_check(*case))]
+
+
+def eof_slots(rng):
+    """The end of file on lists of 0 to 4 ranges with other numbers in the slots behind, joined, apart, waiting, refused: slots past
+    both counts stay; both widths."""
+    for width, n, room, gap, z in itertools.product(WIDTHS, range(5), (0, 1, 2), (0, 3), (0, 1, 9)):
+        pairs = [(10 * i + 4, 10 * i + 8) for i in range(n)]
+        progress = 10 * n - 2 + gap if n else gap
+        records = [set_list(pairs, progress, 'known')]
+        if n == 1:
+            records.append(set_list([(0, progress)], progress))
+        for record in records:
+            yield [words('new', width, n + room), words('poke', 2 * n, 91, 92, 93, 94, 95, 96), *record, 'show',
+                   words('eof', progress + z), words('slots', 2 * n + 6), 'show']
+
+
+def eof_history(rng):
+    """Long histories of all three events from a fresh record or from progress near 2^32 or 2^64, capacities 0 to 4,096, both
+    widths: the end of file first, between the data, last, again with the same size and with another, before the metadata and
+    behind it; then what is missing arrives, and data past the size; sequences in between."""
+    while True:
+        width = rng.choice(WIDTHS)
+        capacity = rng.choice((0, 1, 1, 2, 2, 3, 4, 8, 30, 400, 4096))
+        most = NARROW if width == 'narrow' else TOP
+        step = rng.choice((1, 3, 10, 1000))
+        length = 40 * step
+        base = rng.choice((0, 0, 0, 0, most - length, NARROW - 20 * step))
+        block, late, end = [words('new', width, capacity)], rng.choice((0, 0, 0, 3, 20, 10**9)), base + length
+        if base:
+            block.append(words('load', base, 'known', 0, 'open'))
+        moment, events = rng.choice((0, 1, 5, 15, 30, 39, 45)), rng.choice((10, 45, 90))
+        for at in range(events):
+            if at == late and not base:
+                block.append('metadata')
+            if at == moment or rng.random() < 0.04:
+                z = rng.choice((end, end, end, end, end + step, end - step, base, base + length // 2, 0, most, most + 1))
+                block += ['show', words('eof', min(z, TOP)), 'show']
+            offset = base + rng.choice((at, at, at + 1, rng.randint(0, 40), rng.randint(0, 44))) * step
+            block += ['show', words('data', min(offset, TOP), rng.choice((1, 1, 1, 2, 3)) * step)]
+            if rng.random() < 0.2:
+                block.append(words('slots', rng.choice((4, 10, 40))))
+            if rng.random() < 0.1:
+                block.append(words('nak 1 1 1 7 2', rng.choice(FLAGS), rng.choice((40, 64, 200)), 0, 16, 3200))
+        # The tail again, cut anyhow; then the whole file.
+        for _ in range(4):
+            s, e = sorted((rng.randint(base, end), rng.randint(base, end)))
+            block += ['show', words('data', s, e - s)]
+        yield [*block, 'show', 'metadata', 'show', words('data', base, length), 'show', words('eof', end), 'show',
+               words('data', base, length), 'show', 'nak 1 1 1 7 2 large 200 0 16 3200']
+
+
+def eof_wide_lists(rng):
+    """The end of file on lists of 100, 1,000, 4,095 and 4,096 ranges, full and with room for one more, both widths: behind the last
+    range at progress, which joins, and past it; the same size again; then data at and past it."""
+    for width, n, room, gap in itertools.product(WIDTHS, (100, 1000, 4095, 4096), (0, 1), (0, 5)):
+        if n + room > 4096:
+            continue
+        pairs = [(10 * i + 2, 10 * i + 8) for i in range(n)]
+        progress = pairs[-1][1] + gap
+        end = progress + 100
+        yield [words('new', width, n + room), *set_list(pairs, progress, 'known'), words('eof', progress - 1), words('eof', end),
+               'show', words('eof', end), words('data', end - 1, 1), words('data', end, 1), words('data', 2, end), 'show',
+               words('slots', min(8200, 2 * n + 2)), words('data', 0, end - 1), 'show']
+
+
 def events_wide_lists(rng):
     """Data events on lists of hundreds and thousands of ranges: gaps up to a full list, splits, data
     across many ranges."""
@@ -459,8 +618,8 @@ def events_wide_lists(rng):
 
 
 def records_broken(rng):
-    """Records that are none, for both events and the sequence: 10 of each kind, among them a waiting
-    list that is not the stated one and narrow progress, 8, 12, 19 after them."""
+    """Records that are none, for all three events and the sequence: 10 of each kind, among them a waiting
+    list that is not the stated one, narrow progress and a known size that is not progress, 8, 12, 19 after them."""
     while True:
         width = rng.choice(WIDTHS)
         block = [words('new', width, rng.choice((0, 1, 2, 3, 4)))]
@@ -472,14 +631,16 @@ def records_broken(rng):
                 pairs = list(zip(flat[:len(flat) // 2 * 2:2], flat[1::2]))
             last = pairs[-1][1] if pairs else 0
             progress = rng.choice((last, last, min(TOP, last + 1), max(0, last - 1), rng.choice(pool)))
-            block += set_list(pairs, progress, rng.choice(('known', 'known', 'missing')))
+            size = rng.choice(('open', 'open', 'open', progress, progress, rng.choice(pool)))
+            block += set_list(pairs, progress, rng.choice(('known', 'known', 'missing')), size)
             if rng.random() < 0.1:
                 block.append(words('lend', rng.choice((1, 3, 4, 6, 8192, 8193, 8194))))
             if rng.random() < 0.1:
-                block.append(words('load', progress, 'known', rng.choice((3, 4, 5, 4097, TOP))))
+                block.append(words('load', progress, 'known', rng.choice((3, 4, 5, 4097, TOP)), size))
             for _ in range(3):
                 block.append(rng.choice((
                     'metadata', words('data', rng.choice(pool), rng.choice((0, 1, 2, 3, TOP))),
+                    words('eof', rng.choice((progress, rng.choice(pool)))),
                     words('nak 1 1 1 7 2', rng.choice(FLAGS), rng.choice((22, 24, 40, 64)), rng.choice((0, 1, 2, 9)),
                           rng.choice((0, 1, 2, 17)), rng.choice((0, 64, 128, 1100))))))
             block.append('slots 8')
@@ -487,7 +648,7 @@ def records_broken(rng):
 
 
 def records_small(rng):
-    """Every list of up to two pairs of the numbers 0 to 3, known, with progress 0 to 4: both events, the
+    """Every list of up to two pairs of the numbers 0 to 3, known, with progress 0 to 4: all three events, the
     sequence, remove and insert: 8 for lists that overlap, touch, descend or hold empty pairs, 12, 19; and the
     same lists waiting: 10 unless the list is the stated one."""
     pool = list(itertools.product(range(4), repeat=2))
@@ -497,12 +658,13 @@ def records_small(rng):
             for progress in range(5) if n < 2 else (3, 4):
                 block += [*set_list(pairs, progress, mark), 'nak 1 1 1 7 2 normal 24 0 16 384', 'remove 1 2',
                           *set_list(pairs, progress, mark), 'insert 1 2', 'show', *set_list(pairs, progress, mark),
-                          'data 2 1', 'show', *set_list(pairs, progress, mark), 'metadata', 'show']
+                          'data 2 1', 'show', *set_list(pairs, progress, mark), 'metadata', 'show',
+                          *set_list(pairs, progress, mark), 'eof 4', 'show']
             yield block
 
 
 def records_edges(rng):
-    """Events and the sequence at the limits of the widths: ends and progress of 2^32 - 1, 2^32 and
+    """Events and the sequence at the limits of the widths: ends, sizes and progress of 2^32 - 1, 2^32 and
     2^64 - 1, offsets and lengths whose sum is one above, both widths, known and waiting."""
     for width, limit in (('narrow', NARROW), ('wide', TOP), ('wide', NARROW)):
         for progress in (0, limit - 1, limit, min(TOP, limit + 1)):
@@ -513,6 +675,8 @@ def records_edges(rng):
                 for offset, length in ((0, limit), (limit, 1), (limit - 1, 1), (limit - 1, 2), (limit, 0), (1, limit),
                                        (TOP, 1), (TOP, TOP), (TOP - 1, 1), (0, TOP)):
                     block += [*record, words('data', offset, length), 'show']
+                for z in (0, limit - 1, limit, min(TOP, limit + 1), TOP):
+                    block += [*record, 'show', words('eof', z), 'show', words('eof', z), words('data', max(z, 1) - 1, 1), 'show']
                 for flag in FLAGS:
                     block += [*record, words('nak 1 1 1 7 2', flag, 64, 0, 2, 128)]
                 yield block + ['metadata', 'show', 'metadata']
@@ -742,17 +906,24 @@ def nonsense(rng):
     above 2^64 - 1, signs, tabs, capitals, odd and upper-case octets, values past each limit, lines of
     65,535 and 65,536 octets; and lines that are passed over; each with commands in between that show
     that nothing changed."""
-    good = ['new wide 3', 'lend 6', 'load 7 known 1', 'poke 0 1 2', 'show', 'slots 4', 'add 1 2', 'insert 1 2', 'remove 1 2',
-            'coalesce', 'within 1 2', 'octets normal 8', 'data 0 1', 'metadata',
+    good = ['new wide 3', 'new pairs wide 3', 'lend 6', 'load 7 known 1 open', 'load 7 known 1 7', 'poke 0 1 2', 'show', 'slots 4',
+            'add 1 2', 'insert 1 2', 'remove 1 2', 'coalesce', 'within 1 2', 'octets normal 8', 'data 0 1', 'metadata', 'eof 9',
             'write 1 1 1 7 2 normal 0 1000 24 100 200', 'read 2800', 'nak 1 1 1 7 2 normal 32 0 1 32']
     fixed = ['bogus', 'ADD 1 2', 'add', 'add 1', 'add 1 2 3', 'add -1 2', 'add +1 2', 'add 0x1 2', 'add 1. 2',
              'add 18446744073709551615 18446744073709551615', 'add 18446744073709551616 1',
              'add 99999999999999999999 1', 'add 000000000000000000001 2', 'add 00000000000000000001 2',
              'add\t1 2', '\tadd 1 2', 'add 1 2\r', 'add 1 2\t', '  add   1    2  ', 'insert', 'insert 1', 'insert 1 2 3',
              'insert x 2', 'insert 1 -2', 'Insert 1 2', 'inserts 1 2', 'insert 18446744073709551616 1', ' insert  1  2 ',
-             'new', 'new wide', 'new tall 3',
+             'new', 'new wide', 'new tall 3', 'new pairs', 'new pairs wide', 'new pairs tall 3', 'new pairs wide 4097',
+             'new pairs narrow 3 3', 'new pairs pairs wide 3', 'new Pairs wide 3', 'new wide pairs 3', 'show', 'new pairs narrow 3',
+             'show', 'new pairs wide 3',
              'new wide 4097', 'new narrow 4096', 'new wide 3 3', 'lend 8201', 'lend 8200', 'lend x', 'lend',
-             'load 1 maybe 2', 'load 1 known', 'load x known 1', 'load 1 known x', 'poke', 'poke 8199 1 2',
+             'load 1 maybe 2', 'load 1 maybe 2 open', 'load 1 known', 'load x known 1 open', 'load 1 known x open', 'load 1 known 1',
+             'load 1 known 1 1 1', 'load 1 known 1 shut', 'load 1 known 1 Open', 'load 1 known 1 -1', 'load 1 known 1 missing',
+             'load 1 known 1 18446744073709551616', 'load open known 1 1', 'show', 'load 1 known 0 18446744073709551615', 'show',
+             'load 1 missing 0 0', 'show', 'load 4 known 0 open', 'show',
+             'eof', 'eof x', 'eof open', 'eof 1 2', 'eof -1', 'Eof 1', 'eofs 1', 'eof 18446744073709551616', '  eof   5  ', 'show',
+             'poke', 'poke 8199 1 2',
              'poke 8199 1', 'poke 18446744073709551615 1', 'poke 0 1 x', 'show me', 'slots', 'slots 8201', 'slots x',
              'coalesce now', 'metadata 1', 'within 1', 'octets', 'octets normal', 'octets small 8',
              'octets large 66001', 'octets large 66000', 'octets normal 0', 'octets Normal 0', 'data 1', 'data 1 2 3',
@@ -767,11 +938,11 @@ def nonsense(rng):
     yield ['new wide 4096', 'add 1 2' + ' ' * 65528, 'add 3 4' + ' ' * 65529, 'show',
            'read ' + '0' * 65530, 'read ' + '0' * 65531, 'read ' + '00' * 32000,
            'poke 0' + ' 1' * 8200, 'poke 1' + ' 2' * 8200, 'slots 3', 'poke 0' + ' 3' * 8201, 'slots 3',
-           'load 0 known 4100', 'show', 'load 0 known 4101', 'show', 'load 0 known 18446744073709551615', 'show',
+           'load 0 known 4100 open', 'show', 'load 0 known 4101 0', 'show', 'load 0 known 18446744073709551615 open', 'show',
            'write 1 1 1 7 2 normal 0 1000 16' + ' 1 2' * 4100, 'write 1 1 1 7 2 normal 0 1000 16' + ' 1 2' * 4100 + ' 1',
            'write 1 1 1 7 2 normal 0 1000 16' + ' 1 2' * 4096, 'write 1 1 1 7 2 normal 0 1000 16' + ' 1 2' * 4096 + ' 1']
     while True:
-        block = ['new wide 3', 'load 5 known 0', 'data 7 2']
+        block = ['new wide 3', 'load 5 known 0 open', 'data 7 2']
         for _ in range(30):
             line = rng.choice(good)
             fault = rng.randrange(8)
@@ -784,7 +955,7 @@ def nonsense(rng):
                 line += ' ' + rng.choice(('0', 'x', '1 1', '18446744073709551616'))
             elif fault == 3:
                 parts = line.split(' ')
-                other = ('0', '', 'known', '18446744073709551615', '18446744073709551616', 'wide')
+                other = ('0', '', 'known', 'open', '18446744073709551615', '18446744073709551616', 'wide')
                 parts[rng.randrange(len(parts))] = rng.choice(other)
                 line = ' '.join(parts)
             elif fault == 4:
@@ -798,8 +969,9 @@ def nonsense(rng):
 STORE = [store_remove_places, store_insert_places, store_insert_checks, store_insert_slots, store_remove_small, store_insert_small,
          store_coalesce_small, store_add_within_small, store_octets_small, store_edges, store_lists, store_broken, store_history,
          store_insert_history, store_insert_full]
-REST = [events_small, records_small, records_edges, events_history, events_wide_lists, records_broken, pdus_lengths,
-        pdus_limits, pdus_written, pdus_read, sequences_runs, sequences_any, nonsense]
+EVENTS = [events_small, eof_places, eof_small, eof_checks, eof_data_small, eof_slots, records_small, records_edges, events_history, eof_history,
+          events_wide_lists, eof_wide_lists, records_broken]
+REST = [*EVENTS, pdus_lengths, pdus_limits, pdus_written, pdus_read, sequences_runs, sequences_any, nonsense]
 
 # What a removal did (document 02, C-16), and by how many ranges the list grew.
 GREW = {'whole': -1, 'left': 0, 'right': 0, 'split': 1}
@@ -813,6 +985,25 @@ INSERTED = {f'{answer} {meeting} {room} {width}' for width in WIDTHS for answer,
             (('inserted', JOINS, 'full'), ('inserted', JOINS + APART, 'room'), ('refused 1', APART, 'full'))
             for meeting in meetings}
 
+# How a size meets a record (document 02, C-14), known or waiting: again and another, where the size is known; below progress and
+# level with it; first and further, while waiting; of a list that has no range, one that the tail joins, or none that it joins.
+ENDINGS = [*((mark, *of) for mark in ('known', 'waiting') for of in (
+               ('again', 'ended', 'full'), ('again', 'ended', 'room'), ('another', 'refused 22', 'full'), ('another', 'refused 22', 'room'),
+               ('below', 'refused 22', 'full'), ('below', 'refused 22', 'room'), ('level', 'ended', 'full'), ('level', 'ended', 'room'))),
+           ('known', 'empty', 'ended', 'room'), ('known', 'empty', 'refused 1', 'full'), ('known', 'joins', 'ended', 'full'),
+           ('known', 'joins', 'ended', 'room'), ('known', 'apart', 'ended', 'room'), ('known', 'apart', 'refused 1', 'full'),
+           ('waiting', 'first', 'ended', 'room'), ('waiting', 'first', 'refused 1', 'full'), ('waiting', 'further', 'ended', 'full'),
+           ('waiting', 'further', 'ended', 'room')]
+ENDED = {f'{answer} {mark} {how} {room} {width}' for mark, how, answer, room in ENDINGS for width in WIDTHS}
+
+# Where data ends once the size is known: below it, at it or past it; a full list has no room for a split below it.
+SIZED = {f'{answer} {place} {width}' for width in WIDTHS for answer, place in (
+    ('kept', 'below'), ('kept', 'at'), ('noticed', 'below'), ('noticed', 'at'), ('refused 22', 'past known'),
+    ('refused 22', 'past waiting'), ('refused 1', 'below'))}
+
+# A record that is sound but for its size.
+UNEQUAL = {f'refused 10 unequal {mark} {width}' for mark in ('known', 'waiting') for width in WIDTHS}
+
 # What a full run must meet at least once: by command, first words of answers and refusal numbers.
 REACH = {
     'add': {'added', 1, 2, 3, 4, 10},
@@ -821,11 +1012,12 @@ REACH = {
     'coalesce': {'coalesced', 10},
     'within': {'yes', 'no', 10},
     'octets': {'octets', 6, 7, 10},
-    'data': {'noticed', 'kept', 1, 2, 4, 8, 9, 10, 12},
-    'metadata': {'known', 8, 10, 12, 19},
+    'data': SIZED | UNEQUAL | {'noticed', 'kept', 1, 2, 4, 8, 9, 10, 12, 22},
+    'metadata': UNEQUAL | {'known', 8, 10, 12, 19},
+    'eof': ENDED | UNEQUAL | {'ended', 1, 4, 8, 10, 12, 22},
     'write': {'pdu', 2, 3, 6, 7, 10, 13, 14, 18},
     'read': {'nak', 2, 3, 14, 15, 16, 17, 18},
-    'nak': {'pdu', 'sent', 6, 7, 8, 10, 11, 12, 13, 14, 20},
+    'nak': UNEQUAL | {'pdu', 'sent', 6, 7, 8, 10, 11, 12, 13, 14, 20},
 }
 RUST_REACH = {
     'add': {'added', 1, 2, 3, 4},
@@ -864,22 +1056,71 @@ def meeting(pairs, s, e):
     return 'inside' if a <= s and e <= b else 'left' if b == s else 'right' if e == a else 'over'
 
 
+class Shown:
+    """What `show` answered: the record and its list."""
+
+    def __init__(self, answer):
+        parts = answer.split(' ')
+        self.width, numbers = parts[0], [int(n) for n in parts[6:]]
+        self.length, self.count, self.progress = map(int, parts[1:4])
+        self.waiting, self.size = parts[4] == 'missing', None if parts[5] == 'open' else int(parts[5])
+        self.mark = 'waiting' if self.waiting else 'known'
+        self.pairs = list(zip(numbers[::2], numbers[1::2]))
+        self.room = 'full' if self.count == self.length // 2 else 'room'
+
+    def sound(self):
+        """Is it one that no check refuses, the size apart?"""
+        flat = [n for pair in self.pairs for n in pair]
+        most = NARROW if self.width == 'narrow' else TOP
+        stated = [(0, self.progress)] if self.progress else []
+        return (self.length % 2 == 0 and self.length <= 8192 and self.count <= self.length // 2 and max([0, *flat]) <= self.progress <= most
+                and all(a < b for a, b in itertools.pairwise(flat)) and (not self.waiting or self.pairs == stated))
+
+    def ending(self, z):
+        """How a size meets the record, as the tables above name it."""
+        if self.size is not None:
+            return 'again' if z == self.size else 'another'
+        if z <= self.progress:
+            return 'level' if z == self.progress else 'below'
+        if self.waiting:
+            return 'further' if self.progress else 'first'
+        if not self.pairs:
+            return 'empty'
+        return 'joins' if self.pairs[-1][1] == self.progress else 'apart'
+
+    def met(self, name, numbers, answer):
+        """The kind of an answer to a command on this record, as the tables above name it; None where they name none."""
+        said = 'refused ' + answer.split(' ')[1] if answer.startswith('refused ') else answer.split(' ')[0]
+        if name == 'insert' and said in ('inserted', 'refused 1'):
+            return f'{said} {meeting(self.pairs, *numbers)} {self.room} {self.width}'
+        if name == 'insert' or not self.sound():
+            return None
+        if self.size not in (None, self.progress):
+            return f'{said} unequal {self.mark} {self.width}'
+        if name == 'eof':
+            return f'{said} {self.mark} {self.ending(*numbers)} {self.room} {self.width}'
+        if name == 'data' and self.size is not None:
+            end = sum(numbers)
+            place = 'below' if end < self.size else 'at' if end == self.size else f'past {self.mark}'
+            return f'{said} {place} {self.width}'
+        return None
+
+
 def met(lines, expected):
-    """(command, kind) of each answer to these lines; of a removal with the store's width, of an insert also how it met
-    the list where the line before showed that."""
+    """(command, kind) of each answer to these lines; of a removal with the store's width, of an insert, an event or a sequence
+    also how it met the record where the line before showed that."""
     width, shown = 'wide', None
     for at, answer in expected:
         parts = lines[at - 1].split() or ['']
         if parts[0] == 'new' and answer == ['ok']:
-            width = parts[1]
+            width = parts[-2]
         for said in answer:
             yield parts[0], f'{kind(said)} {width}' if said.startswith('removed ') else kind(said)
-        if parts[0] == 'insert' and shown and (answer[0] == 'refused 1' or answer[0].startswith('inserted ')):
-            length, count, numbers = int(shown[1]), int(shown[2]), [int(n) for n in shown[5:]]
-            how = meeting(list(zip(numbers[::2], numbers[1::2])), int(parts[1]), int(parts[2]))
-            said = 'refused 1' if answer == ['refused 1'] else 'inserted'
-            yield 'insert', f'{said} {how} {"full" if count == length // 2 else "room"} {width}'
-        shown = answer[0].split(' ') if parts[0] == 'show' else None
+        if shown and parts[0] in ('insert', 'data', 'eof', 'metadata', 'nak') and not answer[0].startswith('error '):
+            how = Shown(shown).met(parts[0], [int(word) for word in parts[1:] if word.isdecimal()], answer[0])
+            if how:
+                yield parts[0], how
+        shown = answer[0] if parts[0] == 'show' and not answer[0].startswith('error ') else None
 
 
 def as_the_rust(answer):

@@ -222,8 +222,14 @@ static void store(void) {
     ACCEPTED(pusmarke_write_segments_to_bytes(NULL, 0, 0, 0, 0, NULL, 0), 0, 0, 0);
 }
 
+static int sized_is(struct pusmarke_reception r, uint64_t progress, size_t count, uint64_t narrow, uint64_t missing, uint64_t sized,
+    uint64_t size) {
+    return r.progress == progress && r.count == count && r.narrow == narrow && r.missing == missing && r.sized == sized && r.size == size;
+}
+
+/* A record whose size was never set. */
 static int record_is(struct pusmarke_reception r, uint64_t progress, size_t count, uint64_t narrow, uint64_t missing) {
-    return r.progress == progress && r.count == count && r.narrow == narrow && r.missing == missing;
+    return sized_is(r, progress, count, narrow, missing, 0, 0);
 }
 
 static void events(void) {
@@ -310,6 +316,136 @@ static void events(void) {
     ACCEPTED(pusmarke_metadata(&r, NULL, 0), 0, 0, 0);
     ACCEPTED(pusmarke_data(&r, NULL, 0, 0, 1), 1, 0, 0);
     HOLDS(record_is(r, 1, 0, 0, 0));
+}
+
+/* The end of file: known and waiting, joined and apart, the same size again, another, data behind it; then each refusal, with faults
+ * behind it that it comes before, and that nothing changed. */
+static void endings(void) {
+    uint64_t list[6] = {100, 200, 0, 0, 5, 6};
+    const uint64_t tail[6] = {100, 200, 300, 400, 5, 6};
+    const uint64_t shorter[6] = {100, 200, 300, 399, 5, 6};
+    const uint64_t longer[6] = {100, 400, 0, 0, 5, 6};
+    const uint64_t filled[6] = {0, 0, 0, 0, 5, 6};
+    uint64_t wait[4] = {0, 0, 5, 6};
+    const uint64_t waits[4] = {0, 60, 5, 6};
+    struct pusmarke_reception r = {300, 1, 0, 0, 0, 77}, q;
+
+    /* known, and the tail lies apart from the last pair */
+    ACCEPTED(pusmarke_eof(&r, list, 6, 400), 0, 0, 0);
+    HOLDS(sized_is(r, 400, 2, 0, 0, 1, 400));
+    SAME(tail, list);
+    q = r;
+    q.sized = 9;
+    ACCEPTED(pusmarke_data(&q, list, 6, 0, 100), 1, 0, 0);
+    HOLDS(sized_is(q, 400, 2, 0, 0, 9, 400));
+    ACCEPTED(pusmarke_eof(&q, list, 6, 400), 0, 0, 0);
+    HOLDS(sized_is(q, 400, 2, 0, 0, 1, 400));
+    REFUSED(pusmarke_eof(&r, list, 6, 399), PUSMARKE_FILE_SIZE_ERROR);
+    REFUSED(pusmarke_eof(&r, list, 6, 401), PUSMARKE_FILE_SIZE_ERROR);
+    REFUSED(pusmarke_data(&r, list, 6, 400, 1), PUSMARKE_FILE_SIZE_ERROR);
+    REFUSED(pusmarke_data(&r, list, 6, 399, 2), PUSMARKE_FILE_SIZE_ERROR);
+    HOLDS(sized_is(r, 400, 2, 0, 0, 1, 400));
+    SAME(tail, list);
+    ACCEPTED(pusmarke_data(&r, list, 6, 399, 1), 1, 0, 0);
+    SAME(shorter, list);
+    ACCEPTED(pusmarke_data(&r, list, 6, 0, 400), 1, 0, 0);
+    HOLDS(sized_is(r, 400, 0, 0, 0, 1, 400));
+    SAME(filled, list);
+
+    /* known, and the last pair ends at progress: a full list takes the tail */
+    list[0] = 100;
+    list[1] = 300;
+    q = (struct pusmarke_reception){300, 1, 0, 0, 0, 0};
+    ACCEPTED(pusmarke_eof(&q, list, 2, 400), 0, 0, 0);
+    HOLDS(sized_is(q, 400, 1, 0, 0, 1, 400));
+    SAME(longer, list);
+    /* a size that is progress: nothing becomes missing */
+    q.sized = 0;
+    ACCEPTED(pusmarke_eof(&q, list, 2, 400), 0, 0, 0);
+    HOLDS(sized_is(q, 400, 1, 0, 0, 1, 400));
+    SAME(longer, list);
+
+    /* waiting: first of all, then data, then the same size; metadata leaves the size */
+    r = pusmarke_fresh(3);
+    ACCEPTED(pusmarke_eof(&r, wait, 2, 60), 0, 0, 0);
+    HOLDS(sized_is(r, 60, 1, 3, 1, 1, 60));
+    SAME(waits, wait);
+    r.missing = 8;
+    ACCEPTED(pusmarke_data(&r, wait, 2, 50, 10), 0, 0, 0);
+    REFUSED(pusmarke_data(&r, wait, 2, 50, 11), PUSMARKE_FILE_SIZE_ERROR);
+    ACCEPTED(pusmarke_eof(&r, wait, 2, 60), 0, 0, 0);
+    HOLDS(sized_is(r, 60, 1, 3, 8, 1, 60));
+    SAME(waits, wait);
+    r.sized = 5;
+    ACCEPTED(pusmarke_metadata(&r, wait, 2), 0, 0, 0);
+    HOLDS(sized_is(r, 60, 1, 3, 0, 5, 60));
+    REFUSED(pusmarke_metadata(&r, wait, 2), PUSMARKE_ALREADY_KNOWN);
+
+    /* where the size is not known its number is not looked at, and stays */
+    r = pusmarke_fresh(0);
+    r.size = 7;
+    memset(wait, 0, sizeof wait);
+    ACCEPTED(pusmarke_data(&r, wait, 4, 50, 10), 0, 0, 0);
+    HOLDS(sized_is(r, 60, 1, 0, 1, 0, 7));
+
+    /* no list at all */
+    r = pusmarke_fresh(0);
+    REFUSED(pusmarke_eof(&r, NULL, 0, 1), PUSMARKE_STORE_FULL);
+    HOLDS(record_is(r, 0, 0, 0, 1));
+    ACCEPTED(pusmarke_eof(&r, NULL, 0, 0), 0, 0, 0);
+    HOLDS(sized_is(r, 0, 0, 0, 1, 1, 0));
+    REFUSED(pusmarke_data(&r, NULL, 0, 0, 1), PUSMARKE_FILE_SIZE_ERROR);
+
+    /* refusals change neither record nor list */
+    memcpy(list, tail, sizeof tail);
+    q = (struct pusmarke_reception){400, 2, 0, 0, 0, 0};
+    REFUSED(pusmarke_eof(&q, list, 5, 500), PUSMARKE_BAD_STORE);
+    REFUSED(pusmarke_eof(&q, list, 2, 500), PUSMARKE_BAD_STORE);
+    REFUSED(pusmarke_eof(&q, long_list, 2 * PAIRS, 500), PUSMARKE_BAD_STORE);
+    REFUSED(pusmarke_eof(&q, list, 4, 399), PUSMARKE_FILE_SIZE_ERROR);
+    HOLDS(record_is(q, 400, 2, 0, 0));
+    q = (struct pusmarke_reception){450, 2, 0, 0, 0, 0};
+    REFUSED(pusmarke_eof(&q, list, 4, 500), PUSMARKE_STORE_FULL);
+    HOLDS(record_is(q, 450, 2, 0, 0));
+    q.sized = 4;
+    q.size = 450;
+    REFUSED(pusmarke_eof(&q, list, 4, 500), PUSMARKE_FILE_SIZE_ERROR);
+    REFUSED(pusmarke_data(&q, list, 4, 470, 10), PUSMARKE_FILE_SIZE_ERROR);
+    REFUSED(pusmarke_data(&q, list, 4, 470, 0), PUSMARKE_EMPTY_SEGMENT);
+    REFUSED(pusmarke_data(&q, list, 4, UINT64_MAX, 1), PUSMARKE_RANGE_TOO_LONG);
+    REFUSED(pusmarke_data(&q, list, 4, 150, 1), PUSMARKE_STORE_FULL);
+    q.narrow = 2;
+    REFUSED(pusmarke_eof(&q, list, 4, 4294967296u), PUSMARKE_LARGE_FILE_SEGMENT_NOT_SUPPORTED);
+    REFUSED(pusmarke_data(&q, list, 4, 1, NARROW_LIMIT), PUSMARKE_LARGE_FILE_SEGMENT_NOT_SUPPORTED);
+    q.progress = 399;
+    q.size = 399;
+    REFUSED(pusmarke_eof(&q, list, 4, 4294967296u), PUSMARKE_SCOPE_BELOW_LIST);
+    q.size = 400;
+    REFUSED(pusmarke_eof(&q, list, 4, 400), PUSMARKE_BAD_STORE);
+    REFUSED(pusmarke_data(&q, list, 4, 0, 0), PUSMARKE_BAD_STORE);
+    REFUSED(pusmarke_metadata(&q, list, 4), PUSMARKE_BAD_STORE);
+    HOLDS(sized_is(q, 399, 2, 2, 0, 4, 400));
+    SAME(tail, list);
+    {
+        uint64_t apart[4] = {300, 400, 100, 200};
+        const uint64_t still[4] = {300, 400, 100, 200};
+        REFUSED(pusmarke_eof(&q, apart, 4, 500), PUSMARKE_BAD_STORE);
+        q.size = 399;
+        REFUSED(pusmarke_eof(&q, apart, 4, 500), PUSMARKE_NOT_COALESCED);
+        q.progress = 150;
+        q.size = 150;
+        REFUSED(pusmarke_eof(&q, apart, 4, 500), PUSMARKE_NOT_COALESCED);
+        SAME(still, apart);
+    }
+    /* sizes at the limits */
+    memset(wait, 0, sizeof wait);
+    r = pusmarke_fresh(1);
+    ACCEPTED(pusmarke_eof(&r, wait, 2, NARROW_LIMIT), 0, 0, 0);
+    HOLDS(sized_is(r, NARROW_LIMIT, 1, 1, 1, 1, NARROW_LIMIT));
+    memset(wait, 0, sizeof wait);
+    r = pusmarke_fresh(0);
+    ACCEPTED(pusmarke_eof(&r, wait, 2, UINT64_MAX), 0, 0, 0);
+    HOLDS(sized_is(r, UINT64_MAX, 1, 0, 1, 1, UINT64_MAX) && wait[1] == UINT64_MAX);
 }
 
 static const struct pusmarke_identity identity = {1, 1, 1, 7, 2};
@@ -423,7 +559,7 @@ static void sequence(void) {
     const uint64_t list[4] = {100, 120, 150, 200};
     const uint64_t apart[4] = {150, 200, 100, 120};
     const uint64_t huge[2] = {0, 4294967296u};
-    struct pusmarke_reception r = {300, 2, 0, 0}, q;
+    struct pusmarke_reception r = {300, 2, 0, 0, 0, 0}, q;
     struct pusmarke_identity bad = identity;
     uint8_t buf[64], kept[64];
     const uint8_t both[32] = {0x28, 0, 0x19, 0, 1, 7, 2, 8, 0, 0, 0, 0, 0, 0, 0x01, 0x2c, 0, 0, 0, 100, 0, 0, 0, 120, 0, 0, 0, 150, 0, 0, 0,
@@ -440,6 +576,10 @@ static void sequence(void) {
     q = r;
     q.count = SIZE_MAX;
     REFUSED(pusmarke_nak_sequence(q, list, 4, identity, 0, 32, 0, 2, buf, 64), PUSMARKE_BAD_STORE);
+    q = r;
+    q.sized = 1;
+    q.size = 301;
+    REFUSED(pusmarke_nak_sequence(q, apart, 4, identity, 0, 32, 0, 2, buf, 64), PUSMARKE_BAD_STORE);
     REFUSED(pusmarke_nak_sequence(r, apart, 4, identity, 0, 32, 0, 2, buf, 64), PUSMARKE_NOT_COALESCED);
     q = r;
     q.progress = 199;
@@ -460,6 +600,12 @@ static void sequence(void) {
 
     ACCEPTED(pusmarke_nak_sequence(r, list, 4, identity, 0, 32, 0, 2, buf, 64), 1, 32, 2);
     HOLDS(memcmp(buf, both, 32) == 0 && memcmp(buf + 32, kept + 32, 32) == 0);
+    /* the size known: it is progress, and the PDU is the same */
+    q = r;
+    q.sized = 1;
+    q.size = 300;
+    ACCEPTED(pusmarke_nak_sequence(q, list, 4, identity, 0, 32, 0, 2, buf, 64), 1, 32, 2);
+    HOLDS(memcmp(buf, both, 32) == 0);
     ACCEPTED(pusmarke_nak_sequence(r, list, 4, identity, 0, 24, 0, 2, buf, 64), 2, 48, 2);
     HOLDS(memcmp(buf, each, 48) == 0 && memcmp(buf + 48, kept + 48, 16) == 0);
     ACCEPTED(pusmarke_nak_sequence(r, list, 4, identity, 0, 24, 0, 1, buf, 64), 1, 24, 1);
@@ -512,6 +658,8 @@ static void transfer(void) {
                 for (i = 0; i < 8; i++) {
                     HOLDS(pusmarke_data(&r, list, 32, 100 + 20 * i, 10).refusal == 0);
                 }
+                /* and the end of file, its tail lost */
+                ACCEPTED(pusmarke_eof(&r, list, 32, 300), 0, 0, 0);
                 rounds = 1;
             }
         }
@@ -519,7 +667,7 @@ static void transfer(void) {
             break;
         }
     }
-    HOLDS(record_is(r, 250, 0, 1, 0));
+    HOLDS(sized_is(r, 300, 0, 1, 0, 1, 300));
 }
 
 int main(void) {
@@ -527,6 +675,7 @@ int main(void) {
     removals();
     insertions();
     events();
+    endings();
     writing();
     reading();
     sequence();

@@ -44,7 +44,8 @@ enum pusmarke_refusal {
     PUSMARKE_NOT_NAK = 17,
     PUSMARKE_SCOPE_REVERSED = 18,
     PUSMARKE_ALREADY_KNOWN = 19,
-    PUSMARKE_BUDGET_TOO_LARGE = 20
+    PUSMARKE_BUDGET_TOO_LARGE = 20,
+    PUSMARKE_FILE_SIZE_ERROR = 22
 };
 
 /* What a removal did: `first` of an accepted pusmarke_remove. The part is the one that leaves. */
@@ -64,12 +65,15 @@ struct pusmarke_answer {
     uint64_t third;
 };
 
-/* The record of one reception, which the caller keeps beside its list. Of narrow and missing, 0 is no and any other number is yes. */
+/* The record of one reception, which the caller keeps beside its list. Of narrow, missing and sized, 0 is no and any other number is
+ * yes. */
 struct pusmarke_reception {
-    uint64_t progress; /* the offset behind the furthest octet noticed or kept */
+    uint64_t progress; /* the offset behind the furthest octet noticed or kept; the size, once that is known */
     size_t count;      /* the counted pairs of the list */
     uint64_t narrow;
     uint64_t missing;  /* whether metadata is missing */
+    uint64_t sized;    /* whether the file's size is known */
+    uint64_t size;     /* the file's size; not looked at where it is not known */
 };
 
 /* Source and destination entity, of entity_length octets each, and the transaction's sequence number, of number_length octets. */
@@ -146,24 +150,34 @@ struct pusmarke_answer pusmarke_segment_in_store(const uint64_t *list, size_t li
 struct pusmarke_answer pusmarke_write_segments_to_bytes(const uint64_t *list, size_t list_length, size_t count, uint64_t narrow,
     uint64_t large, uint8_t *buffer, size_t buffer_length);
 
-/* A fresh record: progress 0, count 0, metadata missing, and narrow as handed over. */
+/* A fresh record: progress 0, count 0, metadata missing, the size not known (its number is 0), and narrow as handed over. */
 struct pusmarke_reception pusmarke_fresh(uint64_t narrow);
 
 /* Refusals of a record, in this order: 10 as above, or narrow with a progress above 4,294,967,295, or metadata missing and a list
- * that is not exactly (0, progress), empty at progress 0; 8 list not coalesced; 12 the last end above progress. */
+ * that is not exactly (0, progress), empty at progress 0, or the size known and not progress; 8 list not coalesced; 12 the last end
+ * above progress. */
 
 /* The data event: `length` octets came at `offset`. `record` is never null.
  * While metadata is missing the range is noticed, not kept: the list is (0, progress). Else the range is kept: its offsets leave the
  * list, and offsets from progress up to `offset` become missing. In both, progress becomes the larger of itself and the range's end.
- * Accepted: first is 0 for noticed and 1 for kept. Count and progress of the record change where they lie; narrow and missing stay.
- * Refusals: those of a record; 2 length 0; 9 offset + length above 2^64 - 1; 4 narrow, and the end above 4,294,967,295; 1 the list
- * would have more pairs than the capacity. The caller does not file the octets of a refused event. */
+ * Accepted: first is 0 for noticed and 1 for kept. Count and progress of the record change where they lie; all else stays.
+ * Refusals: those of a record; 2 length 0; 9 offset + length above 2^64 - 1; 4 narrow, and the end above 4,294,967,295; 22 the size is
+ * known and the end is past it; 1 the list would have more pairs than the capacity. The caller does not file the octets of a refused
+ * event. */
 struct pusmarke_answer pusmarke_data(struct pusmarke_reception *record, uint64_t *list, size_t list_length, uint64_t offset,
     uint64_t length);
 
 /* The metadata event. `record` is never null. Accepted: missing becomes 0; all else stays.
  * Refusals: those of a record; 19 metadata is known. */
 struct pusmarke_answer pusmarke_metadata(struct pusmarke_reception *record, const uint64_t *list, size_t list_length);
+
+/* The end of file: the file has `size` octets. `record` is never null.
+ * Offsets from progress up to the size become missing, one with the last pair where that ends at progress; while metadata is missing the
+ * list is (0, size), empty at size 0. Progress becomes the size. The same size again changes nothing of that.
+ * Accepted: no value. Count, progress, sized (to 1) and size of the record change where they lie; all else stays.
+ * Refusals: those of a record; 4 narrow, and the size above 4,294,967,295; 22 the size below progress, or another one is known; 1 the
+ * list would have more pairs than the capacity. */
+struct pusmarke_answer pusmarke_eof(struct pusmarke_reception *record, uint64_t *list, size_t list_length, uint64_t size);
 
 /* Refusal 13: an identifier length outside 1 to 8, or a number that does not fit its length. The header has
  * H = 4 + 2 * entity_length + number_length octets. A request (0, 0) asks for metadata, and may stand only first. */

@@ -155,6 +155,22 @@ pub unsafe extern "C" fn rust_data(handler: &mut Handler, offset: u64, data: *co
     handler.data(offset, from_raw_parts(data, length)).map_or(REFUSED, |_| 0)
 }
 
+#[no_mangle]
+pub extern "C" fn rust_eof(handler: &mut Handler, size: u64) -> u64 {
+    handler.eof(size).map_or(REFUSED, |_| 0)
+}
+
+#[no_mangle]
+pub extern "C" fn rust_handler_size(handler: &Handler) -> u64 {
+    handler.transaction_params.file_size
+}
+
+// Not counted: the Rust itself does not coalesce here.
+#[no_mangle]
+pub extern "C" fn rust_handler_coalesce(handler: &mut Handler) {
+    handler.lost_segment_tracker.coalesce_lost_segments().unwrap();
+}
+
 // The whole sequence; hands back the number of PDUs.
 #[no_mangle]
 pub extern "C" fn rust_sequence(handler: &mut Handler) -> u64 {

@@ -1,4 +1,4 @@
-//! A short pass: metadata, file data with holes, and the NAK PDUs that ask for what is missing, until nothing is.
+//! A short pass: metadata, file data with holes, the end of file, and the NAK PDUs that ask for what is missing, until nothing is.
 use pusmarke::{FileFlag, Identity, NakReader, Reception, Refusal, Width};
 
 /// Prints the NAK PDUs of a reception in hex, and hands back what they ask for.
@@ -30,6 +30,8 @@ fn main() -> Result<(), Refusal> {
         reception.data(offset, length)?;
     }
     println!("with metadata, missing below {}: {:?}", reception.progress(), reception.segments().collect::<Vec<_>>());
+    reception.eof(500)?;
+    println!("with the end of file at {:?}: {:?}", reception.size(), reception.segments().collect::<Vec<_>>());
     for (start, end) in ask(&reception)? {
         reception.data(start, end - start)?;
     }

@@ -18,6 +18,8 @@ pub(crate) struct Record {
     pub count: usize,
     pub narrow: u64,
     pub missing: u64,
+    pub sized: u64,
+    pub size: u64,
 }
 
 /// Whose transaction a NAK PDU is about.
@@ -84,6 +86,7 @@ extern "C" {
     pub(crate) fn pusmarke_fresh(narrow: u64) -> Record;
     pub(crate) fn pusmarke_data(record: *mut Record, list: *mut u64, list_length: usize, offset: u64, length: u64) -> Answer;
     pub(crate) fn pusmarke_metadata(record: *mut Record, list: *const u64, list_length: usize) -> Answer;
+    pub(crate) fn pusmarke_eof(record: *mut Record, list: *mut u64, list_length: usize, size: u64) -> Answer;
     pub(crate) fn pusmarke_write(
         identity: Identity,
         large: u64,

@@ -19,14 +19,16 @@ pub struct Reception<'a> {
 }
 
 impl<'a> Reception<'a> {
-    /// A fresh reception: nothing has come, and metadata is missing. Refused: a list of odd length or of more than 4,096 pairs.
+    /// A fresh reception: nothing has come, metadata is missing, the size is not known. Refused: a list of odd length or of more than
+    /// 4,096 pairs.
     pub fn new(list: &'a mut [u64], width: Width) -> Result<Self, Refusal> {
         store::check(list, 0, width)?;
         let record = unsafe { ffi::pusmarke_fresh(width.mark()) };
         Ok(Reception { record, list, width })
     }
 
-    /// `length` octets of file data came at `offset`. Refused: 2, 9, 4 and 1; the octets of a refused event are not filed.
+    /// `length` octets of file data came at `offset`. Refused: 2, 9, 4, 22 (past the known size) and 1; the octets of a refused event
+    /// are not filed.
     pub fn data(&mut self, offset: u64, length: u64) -> Result<Data, Refusal> {
         let answer = unsafe { ffi::pusmarke_data(&mut self.record, self.list.as_mut_ptr(), self.list.len(), offset, length) };
         Ok(if answer.accepted()?.first == 0 { Data::Noticed } else { Data::Kept })
@@ -38,9 +40,21 @@ impl<'a> Reception<'a> {
         answer.accepted().map(|_| ())
     }
 
-    /// The offset behind the furthest octet that was noticed or kept.
+    /// The end of file came: the file has `size` octets, and what lies between progress and that is missing too. The same size again
+    /// changes nothing. Refused: 4, 22 (below progress, or another size is known) and 1.
+    pub fn eof(&mut self, size: u64) -> Result<(), Refusal> {
+        let answer = unsafe { ffi::pusmarke_eof(&mut self.record, self.list.as_mut_ptr(), self.list.len(), size) };
+        answer.accepted().map(|_| ())
+    }
+
+    /// The offset behind the furthest octet that was noticed or kept; the file's size, once that is known.
     pub fn progress(&self) -> u64 {
         self.record.progress
+    }
+
+    /// The file's size, where an end of file has told it.
+    pub fn size(&self) -> Option<u64> {
+        (self.record.sized != 0).then_some(self.record.size)
     }
 
     /// Whether metadata is missing.

@@ -51,6 +51,8 @@ pub enum Refusal {
     AlreadyKnown,
     /// 20: the budget is above 16.
     BudgetTooLarge,
+    /// 22: a file size below progress, or another than the known one; data past the known size.
+    FileSizeError,
     /// A number that this crate does not know: the archive is not the one that the crate belongs to.
     Unknown(u64),
 }
@@ -80,6 +82,7 @@ impl Refusal {
             18 => Refusal::ScopeReversed,
             19 => Refusal::AlreadyKnown,
             20 => Refusal::BudgetTooLarge,
+            22 => Refusal::FileSizeError,
             other => Refusal::Unknown(other),
         })
     }
@@ -107,6 +110,7 @@ impl Refusal {
             Refusal::ScopeReversed => 18,
             Refusal::AlreadyKnown => 19,
             Refusal::BudgetTooLarge => 20,
+            Refusal::FileSizeError => 22,
             Refusal::Unknown(number) => *number,
         }
     }
@@ -145,6 +149,7 @@ impl fmt::Display for Refusal {
             Refusal::ScopeReversed => f.write_str("scope start is above scope end"),
             Refusal::AlreadyKnown => f.write_str("metadata is known already"),
             Refusal::BudgetTooLarge => f.write_str("budget is above 16 PDUs"),
+            Refusal::FileSizeError => f.write_str("file size does not fit what came"),
             Refusal::Unknown(number) => write!(f, "number {number}, which this crate does not know"),
         }
     }

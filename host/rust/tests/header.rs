@@ -98,7 +98,7 @@ fn fields_of_rust(text: &str, name: &str) -> Vec<(String, String)> {
 fn functions() {
     let c = functions_of_c(&bare(&text("../include/pusmarke.h")));
     let rust = functions_of_rust(&text("src/ffi.rs"));
-    assert_eq!(c.len(), 13);
+    assert_eq!(c.len(), 14);
     assert_eq!(c, rust);
 }
 
@@ -154,9 +154,11 @@ fn refusals() {
         assert_eq!(format!("{refusal:?}").split([' ', '(']).next().unwrap(), name);
         assert_eq!(refusal.number(), *number);
     }
-    // A number that is none of these is not turned into another one.
+    // A number that is none of these, above them or between them, is not turned into another one.
     let above = definition.keys().max().unwrap() + 1;
-    assert_eq!(Refusal::of(above, 0, 0), Some(Refusal::Unknown(above)));
+    for number in (1..=above).filter(|number| !definition.contains_key(number)) {
+        assert_eq!(Refusal::of(number, 0, 0), Some(Refusal::Unknown(number)));
+    }
     assert_eq!(Refusal::of(0, 0, 0), None);
 }
 

@@ -50,6 +50,43 @@ fn events() {
 }
 
 #[test]
+fn end_of_file() {
+    let mut list = [0; 4];
+    let mut reception = Reception::new(&mut list, Width::Wide).unwrap();
+    reception.metadata().unwrap();
+    reception.data(0, 100).unwrap();
+    assert_eq!((reception.size(), reception.eof(99), reception.size()), (None, Err(Refusal::FileSizeError), None));
+    // The tail is missing; the same size again changes nothing, another is refused.
+    assert_eq!((reception.eof(300), reception.eof(300), reception.size()), (Ok(()), Ok(()), Some(300)));
+    assert_eq!((reception.eof(299), reception.eof(301)), (Err(Refusal::FileSizeError), Err(Refusal::FileSizeError)));
+    assert_eq!((reception.segments().collect::<Vec<_>>(), reception.progress()), (vec![(100, 300)], 300));
+    assert_eq!(reception.data(299, 2), Err(Refusal::FileSizeError));
+    assert_eq!(reception.data(200, 50), Ok(Data::Kept));
+    assert_eq!(reception.data(270, 10), Err(Refusal::StoreFull));
+    assert_eq!(reception.segments().collect::<Vec<_>>(), [(100, 200), (250, 300)]);
+    assert_eq!((reception.data(100, 200), reception.segments().len(), reception.size()), (Ok(Data::Kept), 0, Some(300)));
+}
+
+#[test]
+fn end_of_file_before_metadata() {
+    let mut list = [0; 2];
+    let mut reception = Reception::new(&mut list, Width::Narrow).unwrap();
+    assert_eq!(reception.eof(1 << 32), Err(Refusal::LargeFileSegmentNotSupported));
+    assert_eq!((reception.data(5, 5), reception.eof(20), reception.size()), (Ok(Data::Noticed), Ok(()), Some(20)));
+    assert_eq!((reception.data(15, 6), reception.data(15, 5)), (Err(Refusal::FileSizeError), Ok(Data::Noticed)));
+    assert_eq!((reception.segments().collect::<Vec<_>>(), reception.is_metadata_missing()), (vec![(0, 20)], true));
+    // Both are asked for: the metadata and the whole file.
+    let mut buf = [0; 32];
+    let sent = reception.nak_sequence(IDENTITY, FileFlag::Normal, 32).write(1, &mut buf).unwrap();
+    let asked = NakReader::read(&buf[..sent.octets]).unwrap();
+    assert_eq!((asked.scope(), asked.collect::<Vec<_>>()), ((0, 20), vec![(0, 0), (0, 20)]));
+    assert_eq!((reception.metadata(), reception.size()), (Ok(()), Some(20)));
+    // Nothing but an empty file without a list.
+    let mut none = Reception::new(&mut [], Width::Wide).unwrap();
+    assert_eq!((none.eof(1), none.size(), none.eof(0), none.size()), (Err(Refusal::StoreFull), None, Ok(()), Some(0)));
+}
+
+#[test]
 fn sequence_refuses() {
     let mut list = [0; 4];
     let reception = Reception::new(&mut list, Width::Wide).unwrap();
@@ -73,6 +110,7 @@ fn pass() {
     for i in 0..20 {
         assert_eq!(reception.data(100 * i + 50, 50), Ok(Data::Kept));
     }
+    reception.eof(2030).unwrap();
     // Every PDU, two at a time; then what they ask for comes.
     let mut buf = [0; 2 * 40];
     let mut asked = Vec::new();
@@ -89,9 +127,9 @@ fn pass() {
             rest = behind;
         }
     }
-    assert_eq!((sequence.cursor(), asked.len()), (20, 20));
+    assert_eq!((sequence.cursor(), asked.len()), (21, 21));
     for (start, end) in asked {
         reception.data(start, end - start).unwrap();
     }
-    assert_eq!((reception.segments().len(), reception.progress()), (0, 2000));
+    assert_eq!((reception.segments().len(), reception.progress()), (0, 2030));
 }

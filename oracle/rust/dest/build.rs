@@ -1,13 +1,18 @@
-// Cuts the NAK writing out of dest.rs, whose path is DEST: one struct and the functions below,
+// Cuts the NAK writing and the EOF PDU's way out of dest.rs, whose path is DEST: one struct and the functions below,
 // each from its first line to the closing brace at the same depth, unchanged.
 use std::{env, fs, path::Path};
 
-const FUNCTIONS: [&str; 5] = [
+const FUNCTIONS: [&str; 10] = [
     "    fn reset_nak_activity_parameters_if_active(",
     "    fn handle_file_data_without_previous_metadata(",
     "    fn lost_segment_handling(",
     "    fn deferred_lost_segment_handling(",
     "    fn write_multi_packet_nak_sequence(",
+    "    fn handle_eof_pdu(",
+    "    fn handle_eof_without_previous_metadata_in_acked_mode(",
+    "    fn acknowledge_eof_pdu(",
+    "    fn start_deferred_lost_segment_handling(",
+    "    fn handle_eof_no_error(",
 ];
 
 fn cut(lines: &[&str], first: &str, last: &str) -> String {

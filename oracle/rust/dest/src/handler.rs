@@ -1,8 +1,10 @@
 // What the lines cut out of dest.rs stand on: the fields they use, and nothing of their behaviour.
+use spacepackets::cfdp::pdu::ack::{AckPdu, TransactionStatus};
+use spacepackets::cfdp::pdu::eof::EofPdu;
 use spacepackets::cfdp::pdu::file_data::FileDataPdu;
 use spacepackets::cfdp::pdu::nak::{NakPduCreator, NakPduCreatorWithReservedSeqReqsBuf};
 use spacepackets::cfdp::pdu::{CommonPduConfig, FileDirectiveType, PduError, PduHeader};
-use spacepackets::cfdp::{LargeFileFlag, TransmissionMode};
+use spacepackets::cfdp::{ConditionCode, LargeFileFlag, PduType, TransmissionMode};
 use std::cell::{Cell, RefCell};
 use store::lost_segments::{LostSegmentError, LostSegmentStore, LostSegmentsList};
 
@@ -11,6 +13,12 @@ pub enum DestError {
     FirstPacketNotMetadata,
     UnexpectedLargeFileSize,
     InvalidRemoteConfig(#[allow(dead_code)] RemoteConfig),
+    #[allow(dead_code)]
+    WrongStepForPdu {
+        pdu_type: PduType,
+        file_directive_type: Option<FileDirectiveType>,
+        step: TransactionStep,
+    },
     LostSegmentError(LostSegmentError),
     Pdu(#[allow(dead_code)] PduError),
 }
@@ -53,21 +61,58 @@ pub enum TimerContext {
     },
 }
 
+#[derive(Debug, Clone, Copy, PartialEq)]
+pub enum TransactionStep {
+    Idle,
+    WaitingForMetadata,
+    ReceivingFileDataPdus,
+    TransferCompletion,
+}
+
 pub enum DeliveryCode {
     Incomplete,
+    Complete,
 }
 
-pub enum ConditionCode {
-    NakLimitReached,
-}
-
-#[derive(PartialEq)]
+#[derive(Debug, Clone, Copy, PartialEq)]
 pub enum FaultHandlerCode {
+    NoticeOfCancellation,
+    #[allow(dead_code)]
+    NoticeOfSuspension,
+    IgnoreError,
     AbandonTransaction,
 }
 
+#[derive(Clone, Copy, PartialEq)]
+pub enum CompletionDisposition {
+    Completed,
+    Cancelled,
+}
+
 pub struct FinishedParams {
+    pub condition_code: Cell<ConditionCode>,
     pub delivery_code: Cell<DeliveryCode>,
+}
+
+pub struct TransactionId;
+
+pub trait CfdpUser {
+    fn eof_recvd_indication(&mut self, id: &TransactionId);
+}
+
+struct User;
+impl CfdpUser for User {
+    fn eof_recvd_indication(&mut self, _: &TransactionId) {}
+}
+
+pub struct IndicationConfig {
+    pub eof_recv: bool,
+}
+
+pub struct LocalConfig {
+    pub indication_cfg: IndicationConfig,
+    // What is done on a file size error; the crate's default is to cancel.
+    pub on_size_error: FaultHandlerCode,
 }
 
 pub struct Sender {
@@ -75,8 +120,11 @@ pub struct Sender {
 }
 
 impl Sender {
-    fn send_file_directive_pdu(&self, _: FileDirectiveType, octets: &[u8]) -> Result<(), DestError> {
-        self.sent.borrow_mut().push(octets.to_vec());
+    // The NAK PDUs alone are kept.
+    fn send_file_directive_pdu(&self, directive: FileDirectiveType, octets: &[u8]) -> Result<(), DestError> {
+        if directive == FileDirectiveType::NakPdu {
+            self.sent.borrow_mut().push(octets.to_vec());
+        }
         Ok(())
     }
 }
@@ -89,9 +137,21 @@ pub struct TransactionParams {
     pub remote_cfg: Option<RemoteConfig>,
     pub deferred_procedure_timer: Option<Timer>,
     pub finished_params: FinishedParams,
+    pub checksum: u32,
+    pub transaction_id: Option<TransactionId>,
+    pub completion_disposition: Cell<CompletionDisposition>,
+}
+
+impl TransactionParams {
+    fn transmission_mode(&self) -> TransmissionMode {
+        self.pdu_conf.trans_mode
+    }
 }
 
 pub struct Handler {
+    pub local_cfg: LocalConfig,
+    pub step: Cell<TransactionStep>,
+    pub faults: RefCell<Vec<ConditionCode>>,
     pub transaction_params: TransactionParams,
     pub lost_segment_tracker: LostSegmentsList,
     pub pdu_and_cksum_buffer: RefCell<[u8; 4096]>,
@@ -111,6 +171,12 @@ impl Handler {
             file_flag: flag,
         };
         Handler {
+            local_cfg: LocalConfig {
+                indication_cfg: IndicationConfig { eof_recv: true },
+                on_size_error: FaultHandlerCode::NoticeOfCancellation,
+            },
+            step: Cell::new(TransactionStep::Idle),
+            faults: RefCell::new(Vec::new()),
             transaction_params: TransactionParams {
                 pdu_conf,
                 progress: 0,
@@ -118,7 +184,13 @@ impl Handler {
                 acked_params: None,
                 remote_cfg: Some(remote_cfg),
                 deferred_procedure_timer: None,
-                finished_params: FinishedParams { delivery_code: Cell::new(DeliveryCode::Incomplete) },
+                finished_params: FinishedParams {
+                    condition_code: Cell::new(ConditionCode::NoError),
+                    delivery_code: Cell::new(DeliveryCode::Incomplete),
+                },
+                checksum: 0,
+                transaction_id: Some(TransactionId),
+                completion_disposition: Cell::new(CompletionDisposition::Completed),
             },
             lost_segment_tracker: LostSegmentsList::new(Some(capacity)),
             pdu_and_cksum_buffer: RefCell::new([0x5a; 4096]),
@@ -129,6 +201,7 @@ impl Handler {
 
     pub fn known(&mut self) {
         self.transaction_params.acked_params = Some(self.acked(false));
+        self.set_step(TransactionStep::ReceivingFileDataPdus);
     }
 
     pub fn acked(&self, metadata_missing: bool) -> AcknowledgedModeParams {
@@ -144,6 +217,13 @@ impl Handler {
     // The metadata PDU's effect on these fields.
     pub fn metadata(&mut self) {
         self.transaction_params.acked_params.as_mut().unwrap().metadata_missing = false;
+        self.set_step(TransactionStep::ReceivingFileDataPdus);
+    }
+
+    // An EOF PDU without an error.
+    pub fn eof(&mut self, file_size: u64) -> Result<u32, DestError> {
+        let header = PduHeader::new_for_file_directive(self.transaction_params.pdu_conf, 0);
+        self.handle_eof_pdu(&mut User, EofPdu { header, condition_code: ConditionCode::NoError, file_size })
     }
 
     fn file_data<'a>(&self, offset: u64, data: &'a [u8]) -> FileDataPdu<'a> {
@@ -155,7 +235,9 @@ impl Handler {
     pub fn notice(&mut self, offset: u64, length: usize) -> Result<u32, DestError> {
         let data = vec![0; length];
         let pdu = self.file_data(offset, &data);
-        self.handle_file_data_without_previous_metadata(&pdu)
+        let sent = self.handle_file_data_without_previous_metadata(&pdu)?;
+        self.set_step(TransactionStep::WaitingForMetadata);
+        Ok(sent)
     }
 
     // Data once metadata is known: progress moves first, as in `handle_file_data`.
@@ -184,11 +266,40 @@ impl Handler {
         self.lost_segment_tracker.is_empty() && !metadata_missing
     }
 
-    fn declare_fault(&self, _: ConditionCode) -> FaultHandlerCode {
-        FaultHandlerCode::AbandonTransaction
+    fn declare_fault(&self, condition_code: ConditionCode) -> FaultHandlerCode {
+        self.faults.borrow_mut().push(condition_code);
+        match condition_code {
+            ConditionCode::FileSizeError => self.local_cfg.on_size_error,
+            _ => FaultHandlerCode::AbandonTransaction,
+        }
     }
 
     fn abandon_transaction(&mut self) {}
+
+    fn step(&self) -> TransactionStep {
+        self.step.get()
+    }
+
+    fn set_step(&mut self, step: TransactionStep) {
+        self.step.set(step);
+    }
+
+    fn transmission_mode(&self) -> Option<TransmissionMode> {
+        Some(self.transaction_params.transmission_mode())
+    }
+
+    // No EOF PDU here has an error, and no transfer is unacknowledged: these three are not reached.
+    fn handle_eof_cancel(&mut self, _: &EofPdu) {
+        unreachable!()
+    }
+
+    fn checksum_verify(&mut self, _: u64, _: u32) -> bool {
+        unreachable!()
+    }
+
+    fn start_check_limit_handling(&mut self) {
+        unreachable!()
+    }
 }
 
 include!(concat!(env!("OUT_DIR"), "/cut.rs"));

@@ -1,8 +1,8 @@
-// Runs the smallest input of each difference between the Rust and document 01, and prints what the
+// Runs the smallest input of each difference between the Rust and the papers, and prints what the
 // Rust does: a line `KEY<tab>ANSWER` for each. `oracle/differences` sets the port's answer beside it.
 mod handler;
 
-use handler::{DestError, Handler, RemoteConfig};
+use handler::{DestError, FaultHandlerCode, Handler, RemoteConfig};
 use spacepackets::cfdp::LargeFileFlag::{self, Large, Normal};
 use std::panic::{catch_unwind, AssertUnwindSafe};
 use store::lost_segments::{LostSegmentError, LostSegmentStore, LostSegmentsList};
@@ -84,6 +84,16 @@ fn event(h: &mut Handler, call: impl FnOnce(&mut Handler) -> Result<u32, DestErr
         Err(panic) => format!("panics ({})", message(panic)),
     };
     format!("{said}, list {}, progress {}", pairs(h.lost_segment_tracker.iter()), h.transaction_params.progress)
+}
+
+// The answer to an EOF PDU or to data behind one, or the fault that it declares and what is done on it; then list, progress and size.
+fn sized(h: &mut Handler, call: impl FnOnce(&mut Handler) -> Result<u32, DestError>) -> String {
+    let said = event(h, call);
+    let said = match h.faults.borrow().first() {
+        Some(fault) => said.replacen("taken", &format!("fault {fault:?} ({:?})", h.local_cfg.on_size_error), 1),
+        None => said,
+    };
+    format!("{said}, size {}", h.transaction_params.file_size)
 }
 
 fn message(panic: Box<dyn std::any::Any + Send>) -> String {
@@ -176,6 +186,54 @@ fn main() {
     let mut h = handler(&[], 4, Large, true, 64);
     h.known();
     say("large-gap", event(&mut h, |h| h.keep(TWO32, 1)));
+
+    // The end of file.
+    let plain = |capacity| handler(&[], capacity, Normal, false, 64);
+    let known = |capacity| {
+        let mut h = plain(capacity);
+        h.known();
+        h
+    };
+    let one_noticed = |capacity| {
+        let mut h = plain(capacity);
+        h.notice(0, 1).unwrap();
+        h
+    };
+    say("eof-tail", sized(&mut known(4), |h| h.eof(1)));
+    for (key, capacity) in [("eof-touches", 4), ("eof-touches-full", 1)] {
+        let mut h = one_noticed(capacity);
+        h.metadata();
+        say(key, sized(&mut h, |h| h.eof(2)));
+    }
+    for (key, first, second) in [("eof-again", 1, 1), ("eof-above", 1, 2), ("eof-under", 2, 1)] {
+        let mut h = known(4);
+        h.eof(first).unwrap();
+        say(key, sized(&mut h, |h| h.eof(second)));
+    }
+    for (key, code) in [("eof-below", FaultHandlerCode::NoticeOfCancellation), ("eof-below-ignored", FaultHandlerCode::IgnoreError)] {
+        let mut h = known(4);
+        h.local_cfg.on_size_error = code;
+        h.keep(0, 2).unwrap();
+        say(key, sized(&mut h, |h| h.eof(1)));
+    }
+    say("eof-waiting", sized(&mut one_noticed(4), |h| h.eof(2)));
+    say("eof-first", sized(&mut plain(4), |h| h.eof(1)));
+    say("eof-first-full", sized(&mut plain(0), |h| h.eof(1)));
+    let mut h = plain(4);
+    h.eof(1).unwrap();
+    say("eof-first-again", sized(&mut h, |h| h.eof(1)));
+    for (key, offset) in [("eof-data-past", 1), ("eof-data-far", 2)] {
+        let mut h = known(4);
+        h.eof(1).unwrap();
+        say(key, sized(&mut h, |h| h.keep(offset, 1)));
+    }
+    for (key, max_packet_len) in [("eof-scopes", 24), ("eof-scope", 64)] {
+        let mut h = handler(&[], 4, Normal, false, max_packet_len);
+        h.known();
+        h.keep(1, 1).unwrap();
+        h.eof(3).unwrap();
+        say(key, sequence(&mut h, |h| h.deferred()));
+    }
 
     // The sequence.
     let multi = |list: &[(u64, u64)], progress: u64, k: usize, missing: bool| {

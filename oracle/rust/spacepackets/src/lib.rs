@@ -1,5 +1,5 @@
-// Stand-in for the few names of spacepackets that lost_segments.rs and the NAK writing of dest.rs
-// use. The NAK PDU's octets follow the Blue Book, header and 5.2.6.
+// Stand-in for the few names of spacepackets that lost_segments.rs and the lines cut out of dest.rs
+// use. The NAK PDU's octets follow the Blue Book, header and 5.2.6; the ACK PDU has none.
 pub mod cfdp {
     #[derive(Debug, Clone, Copy, PartialEq, Eq)]
     pub enum LargeFileFlag {
@@ -13,14 +13,28 @@ pub mod cfdp {
         Unacknowledged = 1,
     }
 
+    #[derive(Debug, Clone, Copy, PartialEq, Eq)]
+    pub enum ConditionCode {
+        NoError,
+        FileSizeError,
+        NakLimitReached,
+    }
+
+    #[derive(Debug, Clone, Copy, PartialEq, Eq)]
+    pub enum PduType {
+        FileDirective = 0,
+    }
+
     pub mod pdu {
-        use super::{LargeFileFlag, TransmissionMode};
+        use super::{ConditionCode, LargeFileFlag, TransmissionMode};
 
         #[derive(Debug)]
         pub struct PduError;
 
         #[derive(Debug, Clone, Copy, PartialEq, Eq)]
         pub enum FileDirectiveType {
+            EofPdu = 4,
+            AckPdu = 6,
             NakPdu = 8,
         }
 
@@ -81,6 +95,50 @@ pub mod cfdp {
                 }
                 pub fn file_data(&self) -> &'a [u8] {
                     self.data
+                }
+            }
+        }
+
+        pub mod eof {
+            use super::*;
+
+            pub struct EofPdu {
+                pub header: PduHeader,
+                pub condition_code: ConditionCode,
+                pub file_size: u64,
+            }
+
+            impl EofPdu {
+                pub fn pdu_header(&self) -> &PduHeader {
+                    &self.header
+                }
+                pub fn condition_code(&self) -> ConditionCode {
+                    self.condition_code
+                }
+                pub fn file_size(&self) -> u64 {
+                    self.file_size
+                }
+                pub fn file_checksum(&self) -> u32 {
+                    0
+                }
+            }
+        }
+
+        pub mod ack {
+            use super::*;
+
+            pub enum TransactionStatus {
+                Active,
+            }
+
+            pub struct AckPdu;
+
+            impl AckPdu {
+                pub fn new_for_eof_pdu(_: PduHeader, _: ConditionCode, _: TransactionStatus) -> Self {
+                    AckPdu
+                }
+                pub fn write_to_bytes(&self, _: &mut [u8]) -> Result<usize, PduError> {
+                    Ok(0)
                 }
             }
         }

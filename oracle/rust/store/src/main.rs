@@ -74,6 +74,8 @@ struct Console {
     narrow: bool,
     progress: u64,
     missing: bool,
+    // None where it is not known.
+    size: Option<u64>,
     // Set by a command that this driver cannot follow, until the next `new`.
     adrift: bool,
     // The Rust's stores that hold the list now: none until a call needs them.
@@ -129,6 +131,7 @@ impl Console {
             narrow: false,
             progress: 0,
             missing: true,
+            size: None,
             adrift: false,
             live: Vec::new(),
         };
@@ -139,7 +142,7 @@ impl Console {
     fn begin(&mut self, narrow: bool, ranges: usize) {
         self.memory = vec![0; MEMORY];
         (self.length, self.count, self.narrow) = (2 * ranges, 0, narrow);
-        (self.progress, self.missing, self.adrift) = (0, true, false);
+        (self.progress, self.missing, self.size, self.adrift) = (0, true, None, false);
         self.live.clear();
     }
 
@@ -257,7 +260,7 @@ impl Console {
 
     fn answer(&mut self, words: &[&str]) -> Option<String> {
         match words {
-            ["new", width, ranges] => {
+            ["new", width, ranges] | ["new", "pairs", width, ranges] => {
                 let narrow = match *width {
                     "wide" => false,
                     "narrow" => true,
@@ -271,14 +274,18 @@ impl Console {
                 self.live.clear();
                 Some("ok".into())
             }
-            ["load", progress, mark, count] => {
+            ["load", progress, mark, count, size] => {
                 let (progress, count) = (number(progress)?, number(count)?);
                 let missing = match *mark {
                     "known" => false,
                     "missing" => true,
                     _ => return None,
                 };
-                (self.progress, self.missing, self.count) = (progress, missing, count);
+                let size = match *size {
+                    "open" => None,
+                    other => Some(number(other)?),
+                };
+                (self.progress, self.missing, self.count, self.size) = (progress, missing, count, size);
                 self.live.clear();
                 Some("ok".into())
             }
@@ -293,12 +300,13 @@ impl Console {
                 self.wake()?;
                 let list = self.live[0].list();
                 let mut text = format!(
-                    "{} {} {} {} {}",
+                    "{} {} {} {} {} {}",
                     if self.narrow { "narrow" } else { "wide" },
                     self.length,
                     list.len(),
                     self.progress,
-                    if self.missing { "missing" } else { "known" }
+                    if self.missing { "missing" } else { "known" },
+                    self.size.map_or("open".into(), |size| size.to_string())
                 );
                 for (s, e) in list {
                     text += &format!(" {s} {e}");
@@ -372,7 +380,7 @@ impl Console {
                     }
                 })
             }
-            ["data" | "metadata", ..] => {
+            ["data" | "metadata" | "eof", ..] => {
                 self.adrift = true;
                 self.live.clear();
                 None
