@@ -89,7 +89,8 @@ pub pdu-length : (n : Nak) → pduLength (n .form) (n .identity) (length (flat (
 pdu-length n = rw (length-pdu n, length-data (fieldLength (n .form .flag)) (n .scope) (n .requests))
 
 -- the PDU's length by its requests: H + 1 + 2F for the scope, and 2F for each request
-pub length-of-pdu : (n : Nak) → length (pdu n) ≡ headerLength (n .identity .«entity_length») (n .identity .«number_length») + 1 + 2 * fieldLength (n .form .flag) + 2 * fieldLength (n .form .flag) * length (n .requests)
+pub length-of-pdu : (n : Nak)
+    → length (pdu n) ≡ headerLength (n .identity .«entity_length») (n .identity .«number_length») + 1 + 2 * fieldLength (n .form .flag) + 2 * fieldLength (n .form .flag) * length (n .requests)
 length-of-pdu n =
     let f = fieldLength (n .form .flag) in
     length-pdu n ∙ rw (length-data f (n .scope) (n .requests), length-flat (n .requests), mul-add f 2, ← mul-assoc f 2, mul-comm f 2) (omega arith)

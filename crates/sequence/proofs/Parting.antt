@@ -160,6 +160,7 @@ module _
             → ScopesJoin 0 (rec .progress) (pdus (naks a 0 n))
         go zero e u = let z = zero-mul (a .each) in absurd (omega (arith, rw (← e) at u))
         go (suc n) e u =
-            let r : roundedUp (length (a .entries) - 0) (a .each) ≡ suc n = ap (λ (m : ℕ). roundedUp m (a .each)) {x = length (a .entries) - 0} {y = length (a .entries)} (omega arith) ∙ sym e in
+            let r : roundedUp (length (a .entries) - 0) (a .each) ≡ suc n =
+            ap (λ (m : ℕ). roundedUp m (a .each)) {x = length (a .entries) - 0} {y = length (a .entries)} (omega arith) ∙ sym e in
             let b = begins-before (length (a .entries)) 0 (a .each) n (each-low o sz) (omega (arith, r)) in
             joins n 0 b (omega (arith, rw (← e) at u))

@@ -152,7 +152,8 @@ module _ (m : Bool) (p k : ℕ) (rs : List Range) (low : 1 ≤ k) (s : Coalesced
   numbers-fine f h =
       let a = start-within f in
       let b = end-within f in
-      rw (le-ltb (largestOf (g .flag)) (scopeStart (entriesOf m rs) f) (omega arith), le-ltb (largestOf (g .flag)) (scopeEnd shared f) (omega arith)) (entries-numbers m p (largestOf (g .flag)) k f rs h w)
+      rw (le-ltb (largestOf (g .flag)) (scopeStart (entriesOf m rs) f) (omega arith), le-ltb (largestOf (g .flag)) (scopeEnd shared f) (omega arith))
+      (entries-numbers m p (largestOf (g .flag)) k f rs h w)
 
 -- what check 7 leaves
 small-progress : (rec : Reception) (xs : List ℕ) (g : Form) → isTooLarge rec xs g ≡ false → rec .progress ≤ largestOf (g .flag)
