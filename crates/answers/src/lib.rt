@@ -1,5 +1,5 @@
 // The answers of the calls in numbers, for C and for the console: a function for each answer enum, and one for the refusals.
-pub mod events; // events.rt: of the data event and of the metadata event
+pub mod events; // events.rt: of the three events
 pub mod inner; // inner.rt: an answer with so many values
 pub mod pdu; // pdu.rt: of writing one NAK PDU
 pub mod pdus; // pdus.rt: of the NAK sequence

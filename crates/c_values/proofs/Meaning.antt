@@ -5,11 +5,14 @@ use mathlib.Core.List.{List}
 use Prim.Native.Nat.{ℕ}
 use lib.Dec.{eqb}
 use borrow.Author.Tests.{eqb-true}
-use Rattle.reception.specs.Record.{freshRecord, moved, known}
+use lib.ListN.{length}
+use Rattle.outcomes.specs.Outcome.{Outcome}
+use Rattle.reception.specs.Record.{freshRecord, moved, known, ended}
 use Rattle.reception.specs.Data.{dataOutcome, dataRecord, advanced}
 use Rattle.reception.specs.Metadata.{metadataOutcome, metadataRecord}
+use Rattle.reception.specs.Eof.{eofLeaves, eofOutcome, eofRecord}
 use Rattle.c_values.specs.Input.{isSet, widthIn, recordIn}
-use Rattle.c_values.specs.Output.{recordOut, advancedTo, markAfter, markedBy}
+use Rattle.c_values.specs.Output.{recordOut, advancedTo, markAfter, markedBy, endedBy}
 use Rattle.c_values.specs.declared.PusmarkeReception.{PusmarkeReception}
 
 pub fresh-means : (narrow : ℕ) → recordIn (recordOut narrow (freshRecord (widthIn narrow))) ≡ freshRecord (widthIn narrow)
@@ -47,3 +50,26 @@ metadata-stands false c = rw (mark-stays (c .missing)) refl
 
 pub metadata-means : (c : PusmarkeReception) (xs : List ℕ) → recordIn (markedBy (metadataRecord (recordIn c) xs) c) ≡ metadataRecord (recordIn c) xs
 metadata-means c xs = metadata-stands (eqb (metadataOutcome (recordIn c) xs .number) 0) c
+
+-- the end of file: the size is known and C's mark says so, or all is C's own
+eof-stands : (t : Bool) (c : PusmarkeReception) (z n : ℕ)
+    → recordIn (
+    record {
+      progress = cond t (ended (recordIn c) z n) (recordIn c) .progress;
+      count = cond t (ended (recordIn c) z n) (recordIn c) .count;
+      narrow = c .narrow;
+      missing = c .missing;
+      sized = cond t 1 (c .sized);
+      size = cond t (ended (recordIn c) z n) (recordIn c) .size;
+    }
+    )
+    ≡ cond t (ended (recordIn c) z n) (recordIn c)
+eof-stands true c z n = refl
+eof-stands false c z n = refl
+
+pub eof-means : (c : PusmarkeReception) (xs : List ℕ) (z : ℕ)
+    → recordIn (endedBy (eofOutcome (recordIn c) xs z) (eofRecord (recordIn c) xs z) c) ≡ eofRecord (recordIn c) xs z
+eof-means c xs z = eof-stands (eqb (eofOutcome (recordIn c) xs z .number) 0) c z (length (eofLeaves (recordIn c) xs z))
+
+pub eof-refused : (c : PusmarkeReception) (o : Outcome) → eqb (o .number) 0 ≡ false → endedBy o (recordIn c) c ≡ c
+eof-refused c o e = rw e

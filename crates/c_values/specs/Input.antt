@@ -32,7 +32,15 @@ abbrev pub storeOf : ℕ → ℕ → Store
 storeOf count narrow = record { count = count; width = widthIn narrow }
 
 abbrev pub recordIn : PusmarkeReception → Reception
-recordIn rec = record { progress = rec .progress; count = rec .count; width = widthIn (rec .narrow); missing = isSet (rec .missing) }
+recordIn rec =
+    record {
+      progress = rec .progress;
+      count = rec .count;
+      width = widthIn (rec .narrow);
+      missing = isSet (rec .missing);
+      sized = isSet (rec .sized);
+      size = rec .size;
+    }
 
 abbrev pub identityIn : PusmarkeIdentity → Identity
 identityIn d =

@@ -68,6 +68,8 @@ pub fn record_in(rec: PusmarkeReception) -> Reception
         count: rec.count,
         width: width_in(rec.narrow),
         missing: is_set(rec.missing),
+        sized: is_set(rec.sized),
+        size: rec.size,
     }
 }
 

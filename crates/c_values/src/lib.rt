@@ -1,15 +1,17 @@
 // C's values: what the numbers that C hands over stand for, and what it is handed back besides answers.
 pub mod inner; // inner.rt: C's numbers read as the calls' types
 pub mod pdu; // pdu.rt: what reading and a step hand back
-pub mod record_events; // record_events.rt: the two events on C's record
+pub mod record_events; // record_events.rt: the three events on C's record
 
-// The record of a reception. Of `narrow` and `missing`, 0 is no and any other number is yes.
+// The record of a reception. Of `narrow`, `missing` and `sized`, 0 is no and any other number is yes.
 #[repr(C)]
 pub struct PusmarkeReception {
     pub progress: u64,
     pub count: usize,
     pub narrow: u64,
     pub missing: u64,
+    pub sized: u64,
+    pub size: u64,
 }
 
 #[repr(C)]

@@ -1,16 +1,21 @@
-// The two events on C's record by value, whole.
+// The three events on C's record by value, whole.
 ghost use mathlib.Core.Path.{_≡_};
+ghost use mathlib.Core.Bool.{cond};
+ghost use lib.Dec.{eqb};
 ghost use Rattle.reception.specs.Data.{dataOutcome, dataRecord, dataList};
 ghost use Rattle.reception.specs.Metadata.{metadataOutcome, metadataRecord};
+ghost use Rattle.reception.specs.Eof.{eofOutcome, eofRecord, eofList};
 ghost use Rattle.answers.specs.Answer.{answerOf};
 ghost use Rattle.c_values.specs.Input.{recordIn};
-ghost use Rattle.c_values.specs.Output.{advancedTo, markAfter, markedBy};
+ghost use Rattle.c_values.specs.Output.{advancedTo, markAfter, markedBy, endedBy};
 use crate::PusmarkeReception;
 use crate::inner::record_in;
 use answers::PusmarkeAnswer;
 use answers::events::of_data;
+use answers::events::of_eof;
 use answers::events::of_metadata;
 use events::data::data_core;
+use events::eof::eof_core;
 use events::metadata::metadata_core;
 
 // What an event leaves: the answer, and C's record.
@@ -55,5 +60,31 @@ pub fn metadata_whole(rec: PusmarkeReception, list: &[u64]) -> EventOut
     let after = done.rec;
     let mut next = rec;
     next.missing = mark_after(rec.missing, after.missing);
+    EventOut { answer, rec: next }
+}
+
+// C's mark of the size: 1 once an EOF is accepted, else as handed over.
+pub fn sized_after(refusal: u64, sized: u64) -> u64
+    ensures { λ r. ⌜ r ≡ cond (eqb refusal 0) 1 sized ⌝ }
+{
+    if refusal == 0 { 1 } else { sized }
+}
+
+// The EOF event on C's record by value.
+pub fn eof_whole(rec: PusmarkeReception, list: &mut [u64], size: u64) -> EventOut
+    ensures { λ r. ⌜ (r .answer ≡ answerOf (eofOutcome (recordIn rec) (now (list .entry)) size))
+        × ((r .rec ≡ endedBy (eofOutcome (recordIn rec) (now (list .entry)) size) (eofRecord (recordIn rec) (now (list .entry)) size) rec)
+        × (now (list .exit) ≡ eofList (recordIn rec) (now (list .entry)) size)) ⌝ }
+{
+    let own = record_in(rec);
+    let done = eof_core(own, list, size);
+    let case = done.answer;
+    let answer = of_eof(case);
+    let after = done.rec;
+    let mut next = rec;
+    next.progress = after.progress;
+    next.count = after.count;
+    next.size = after.size;
+    next.sized = sized_after(answer.refusal, rec.sized);
     EventOut { answer, rec: next }
 }

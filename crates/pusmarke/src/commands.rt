@@ -25,6 +25,7 @@ pub enum Command {
     Octets,
     Data,
     Metadata,
+    Eof,
     Write,
     Read,
     Nak,
@@ -80,6 +81,9 @@ fn call_named(word: &[u8]) -> Command {
     if words::same(word, b"metadata") {
         return Command::Metadata;
     }
+    if words::same(word, b"eof") {
+        return Command::Eof;
+    }
     if words::same(word, b"write") {
         return Command::Write;
     }
@@ -90,6 +94,33 @@ fn call_named(word: &[u8]) -> Command {
         return Command::Nak;
     }
     state_named(word)
+}
+
+// The words of `new`: a width and ranges, with or without `pairs` before them; in both, the width is the first value.
+fn new_words(line: &[u8], from: usize, values: &mut [u64; 8209]) -> Arguments
+    requires { ⌜ from ≤ length (now line) ⌝ }
+{
+    let named = words::take_words(line, from, b"pwr", values);
+    if let Arguments::Taken(n) = named {
+        values[0] = values[1];
+        values[1] = values[2];
+        return Arguments::Taken(n);
+    }
+    words::take_words(line, from, b"wr", values)
+}
+
+// The words of `load`: progress, the mark, the count, and the size or `open`; the fifth value says whether the size is known.
+fn load_words(line: &[u8], from: usize, values: &mut [u64; 8209]) -> Arguments
+    requires { ⌜ from ≤ length (now line) ⌝ }
+{
+    let open = words::take_words(line, from, b"nkno", values);
+    values[4] = 0;
+    if let Arguments::Taken(n) = open {
+        return Arguments::Taken(n);
+    }
+    let told = words::take_words(line, from, b"nknn", values);
+    values[4] = 1;
+    told
 }
 
 // The words that a command takes.
@@ -103,9 +134,9 @@ fn arguments(
     requires { ⌜ from ≤ length (now line) ⌝ }
 {
     match command {
-        Command::New => words::take_words(line, from, b"wr", values),
+        Command::New => new_words(line, from, values),
         Command::Lend => words::take_words(line, from, b"l", values),
-        Command::Load => words::take_words(line, from, b"nkn", values),
+        Command::Load => load_words(line, from, values),
         Command::Poke => words::take_words(line, from, b"n*", values),
         Command::Show => words::take_words(line, from, b"", values),
         Command::Slots => words::take_words(line, from, b"l", values),
@@ -117,6 +148,7 @@ fn arguments(
         Command::Octets => words::take_words(line, from, b"fb", values),
         Command::Data => words::take_words(line, from, b"nn", values),
         Command::Metadata => words::take_words(line, from, b"", values),
+        Command::Eof => words::take_words(line, from, b"n", values),
         Command::Write => words::take_words(line, from, b"nnnnnfnnb*", values),
         Command::Read => words::packet(line, from, buf),
         Command::Nak => words::take_words(line, from, b"nnnnnfnnnb", values),
@@ -137,7 +169,7 @@ fn answer(
     match command {
         Command::New => state::new(s, memory, values[0], values[1], out),
         Command::Lend => state::lend(s, values[0], out),
-        Command::Load => state::load(s, values[0], values[1], values[2], out),
+        Command::Load => state::load(s, values, out),
         Command::Poke => state::poke(s, memory, values[0], values, n, out),
         Command::Show => state::show(s, memory, out),
         Command::Slots => state::slots(s, memory, values[0], out),
@@ -149,6 +181,7 @@ fn answer(
         Command::Octets => store::octets(s, memory, values[0], values[1], buf, out),
         Command::Data => receiving::data(s, memory, values[0], values[1], out),
         Command::Metadata => receiving::metadata(s, memory, out),
+        Command::Eof => receiving::eof(s, memory, values[0], out),
         Command::Write => pdus::write(s, values, values, n, buf, out),
         Command::Read => pdus::read(s, buf, n, out),
         Command::Nak => pdus::sequence(s, memory, values, buf, out),

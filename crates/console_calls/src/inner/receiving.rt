@@ -13,13 +13,12 @@ fn noticed_or_kept(out: &mut [u8; 65536], at: usize, kept: u64) -> usize {
     }
 }
 
-// An accepted data event: what became of the range, and the count and progress after it.
-fn show_event(s: State, kept: u64, out: &mut [u8; 65536]) -> State {
+// An accepted event, its word ended at `from`: the count and progress after it.
+fn show_event(s: State, from: usize, out: &mut [u8; 65536]) -> State {
     let rec = s.rec;
-    let mut at = noticed_or_kept(out, s.at, kept);
-    at = print::number(out, at, rec.count as u64);
-    at = print::number(out, at, rec.progress);
-    state::answered(s, out, at)
+    let at = print::number(out, from, rec.count as u64);
+    let end = print::number(out, at, rec.progress);
+    state::answered(s, out, end)
 }
 
 pub fn data(
@@ -38,7 +37,8 @@ pub fn data(
     if a.refusal != 0 {
         return refusals::show_refusal(s, a, out);
     }
-    show_event(state::with_record(s, after), a.first, out)
+    let at = noticed_or_kept(out, s.at, a.first);
+    show_event(state::with_record(s, after), at, out)
 }
 
 pub fn metadata(s: State, memory: &[u64], out: &mut [u8; 65536]) -> State {
@@ -52,4 +52,18 @@ pub fn metadata(s: State, memory: &[u64], out: &mut [u8; 65536]) -> State {
         return refusals::show_refusal(s, a, out);
     }
     state::says(state::with_record(s, after), out, b"known")
+}
+
+pub fn eof(s: State, memory: &mut [u64], size: u64, out: &mut [u8; 65536]) -> State {
+    let lent = part::first_numbers(memory, s.length);
+    let rec = s.rec;
+    let done = events::eof::eof_core(rec, &mut memory[..lent], size);
+    let answer = done.answer;
+    let after = done.rec;
+    let a = answers::events::of_eof(answer);
+    if a.refusal != 0 {
+        return refusals::show_refusal(s, a, out);
+    }
+    let at = print::text(out, s.at, b"ended");
+    show_event(state::with_record(s, after), at, out)
 }

@@ -86,12 +86,15 @@ pub fn lend(s: State, length: u64, out: &mut [u8; 65536]) -> State {
     says(next, out, b"ok")
 }
 
-// load: progress, the metadata mark and the count, unchecked.
-pub fn load(s: State, progress: u64, missing: u64, count: u64, out: &mut [u8; 65536]) -> State {
+// load: progress, the metadata mark, the count and the size, unchecked; `sized` is 0 where the size is not known, and then its number is
+// 0 too. The values are those of the words in order, then `sized`.
+pub fn load(s: State, values: &[u64; 8209], out: &mut [u8; 65536]) -> State {
     let mut rec = s.rec;
-    rec.progress = progress;
-    rec.missing = missing != 0;
-    rec.count = count as usize;
+    rec.progress = values[0];
+    rec.missing = values[1] != 0;
+    rec.count = values[2] as usize;
+    rec.size = values[3];
+    rec.sized = values[4] != 0;
     says(with_record(s, rec), out, b"ok")
 }
 
@@ -155,6 +158,14 @@ fn show_missing(out: &mut [u8; 65536], at: usize, missing: bool) -> usize {
     }
 }
 
+fn show_size(out: &mut [u8; 65536], at: usize, sized: bool, size: u64) -> usize {
+    if sized {
+        print::number(out, at, size)
+    } else {
+        print::text(out, at, b" open")
+    }
+}
+
 // show: the state and the counted numbers.
 pub fn show(s: State, memory: &[u64], out: &mut [u8; 65536]) -> State {
     let rec = s.rec;
@@ -164,6 +175,7 @@ pub fn show(s: State, memory: &[u64], out: &mut [u8; 65536]) -> State {
     at = print::number(out, at, rec.count as u64);
     at = print::number(out, at, rec.progress);
     at = show_missing(out, at, rec.missing);
+    at = show_size(out, at, rec.sized, rec.size);
     let counted = part::first_numbers(memory, 2 * part::at_most(rec.count, 4100));
     at = numbers(out, at, &memory[..counted]);
     answered(s, out, at)

@@ -127,7 +127,7 @@ fn mark(word: &[u8], first: &[u8], second: &[u8]) -> Value {
 }
 
 // What a word says where this kind is due: `r` ranges, `l` a length of the memory, `b` one of the buffer, `w` a width, `k` whether
-// metadata is known, `f` the large file flag, `.` nothing; any other kind is a number.
+// metadata is known, `f` the large file flag, `o` the word `open`, `p` the word `pairs`, `.` nothing; any other kind is a number.
 fn read_word(word: &[u8], kind: u8) -> Value {
     match kind {
         b'r' => number_to(word, 4096),
@@ -136,6 +136,8 @@ fn read_word(word: &[u8], kind: u8) -> Value {
         b'w' => mark(word, b"wide", b"narrow"),
         b'k' => mark(word, b"known", b"missing"),
         b'f' => mark(word, b"normal", b"large"),
+        b'o' => mark(word, b"open", b"open"),
+        b'p' => mark(word, b"pairs", b"pairs"),
         b'.' => Value::Wrong,
         _ => number(word),
     }

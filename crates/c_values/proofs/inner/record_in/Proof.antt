@@ -10,8 +10,11 @@ width-in-requires c κs = search needs
 is-set-requires : tie.Need-is-set-requires
 is-set-requires c κs = search needs
 
+is-set-requires-2 : tie.Need-is-set-requires-2
+is-set-requires-2 c κs = search needs
+
 returns : tie.Need-returns
-returns c = rw (c .is-set .ensures, c .before .width-in .ensures) refl
+returns c = rw (c .is-set2 .ensures, c .before .is-set .ensures, c .before .before .width-in .ensures) refl
 
 pub record-in-spec : {M : Type 1} → statement M
-record-in-spec = tie.close (tie.spec width-in-requires is-set-requires returns)
+record-in-spec = tie.close (tie.spec width-in-requires is-set-requires is-set-requires-2 returns)

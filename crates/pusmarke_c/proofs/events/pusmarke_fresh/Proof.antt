@@ -13,9 +13,12 @@ fresh-requires c κs = search needs
 mark-of-requires : tie.Need-mark-of-requires
 mark-of-requires c κs = search needs
 
+mark-of-requires-2 : tie.Need-mark-of-requires-2
+mark-of-requires-2 c κs = search needs
+
 returns : tie.Need-returns
-returns c = rw (c .mark-of .ensures, c .before .fresh .ensures) refl
+returns c = rw (c .mark-of2 .ensures, c .before .mark-of .ensures, c .before .before .fresh .ensures) refl
 
 pub pusmarke-fresh-spec : {M : Type 1} → statement M
 pusmarke-fresh-spec =
-    tie.close (tie.spec width-in-requires fresh-requires mark-of-requires returns)
+    tie.close (tie.spec width-in-requires fresh-requires mark-of-requires mark-of-requires-2 returns)
