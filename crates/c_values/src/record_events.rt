@@ -80,11 +80,11 @@ pub fn eof_whole(rec: PusmarkeReception, list: &mut [u64], size: u64) -> EventOu
     let done = eof_core(own, list, size);
     let case = done.answer;
     let answer = of_eof(case);
-    let after = done.rec;
+    let ended = done.rec;
     let mut next = rec;
-    next.progress = after.progress;
-    next.count = after.count;
-    next.size = after.size;
+    next.progress = ended.progress;
+    next.count = ended.count;
+    next.size = ended.size;
     next.sized = sized_after(answer.refusal, rec.sized);
     EventOut { answer, rec: next }
 }

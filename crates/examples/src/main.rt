@@ -168,6 +168,8 @@ fn write_sequence(largest: usize, buf: &mut [u8]) {
         count: 5,
         width: Width::Wide,
         missing: false,
+        sized: false,
+        size: 0,
     };
     let identity = example_identity();
     let answer = nak_sequence::write_nak_sequence(

@@ -16,10 +16,11 @@ use Rattle.ranges.proofs.Covering.{above-covers, at-covers}
 use Rattle.ranges.proofs.Fewest.{fewest}
 use Rattle.ranges.proofs.Test.{and-none}
 use Rattle.nak.specs.Writer.{isBadIdentity}
-use Rattle.reception.specs.History.{Event, State, fresh, run, rangesOf, metadataCame, Missing}
+use Rattle.reception.specs.History.{Event, State, fresh, run, rangesOf, metadataCame, kept, largestEnd, toldSize, Missing}
 use Rattle.reception.specs.Record.{Passed}
 use Rattle.ranges.specs.Store.{mostPairs}
-use Rattle.reception.proofs.Records.{mark-metadata}
+use Rattle.reception.proofs.Records.{mark-metadata, progress-largest}
+use Rattle.reception.proofs.Answered.{size-is-progress}
 use Rattle.reception.proofs.Histories.{missing-exact, list-coalesced, always-sound}
 use Rattle.sequence.specs.Entries.{Asking, entriesOf, roundedUp, naks, octetsOf}
 use Rattle.sequence.specs.Sequence.{Order, isBadSize, isTooLarge, asked}
@@ -153,6 +154,16 @@ module _
           let c = entries-cover (reached .rec .missing) (rangesOf reached) x in
           let m = missing-exact w xs N size few es x in
           rw requests (λ h. m .0 (c .0 h), λ h. c .1 (m .1 h))
+
+      -- once an EOF told the size z, they name exactly the octets below z that no kept range covers, the tail among them, and the last
+      -- scope ends at z
+      pub names-tail : (z : ℕ) → toldSize (fresh w xs) es ≡ z ∷ []
+          → ((x : ℕ) → Covers x (requestsRead (parted octets)) ↔ ((x < z) × (Covers x (kept (fresh w xs) es) → ⊥)))
+          × (1 ≤ length (a .entries) → ScopesJoin 0 z (parted octets))
+      names-tail z e =
+          let p = size-is-progress w xs N size few es z e in
+          let q : largestEnd (fresh w xs) es ≡ z = sym (progress-largest w xs es) ∙ p in
+          (λ x. rw q at (names-missing x), λ h. rw p at (calls-scopes h))
 
       -- each once
       pub names-once : (x i j : ℕ) → i < length (requestsRead (parted octets)) → j < length (requestsRead (parted octets))

@@ -3,14 +3,16 @@ use mathlib.Core.Path.{_≡_, sym, ap, _∙_}
 use mathlib.Core.Bool.{false}
 use mathlib.Core.List.{List, [], _∷_, _++_}
 use mathlib.Core.Logic.{_⊎_, inl, inr, ⊎-elim, _↔_}
-use Prim.Native.Nat.{ℕ, _+_, _≤_}
+use Prim.Native.Nat.{ℕ, _+_, _≤_, _<_}
 use native.Mathlib.Omega.{arith}
 use lib.ListN.{length, getD, length-append}
 use lib.Dec.{ltb}
-use borrow.Author.Tests.{eqb-false, ltb-false, eq-eqb, ne-eqb, le-ltb}
+use borrow.Author.Tests.{eqb-false, ltb-false, eq-eqb, ne-eqb, lt-ltb, le-ltb}
 use Rattle.ranges.specs.Range.{Range, range, In, Covers}
-use Rattle.ranges.specs.Store.{counted, capacity, limitOf, eitherAbove, stored}
+use Rattle.ranges.specs.Store.{counted, capacity, limitOf, isBadStore, eitherAbove, stored}
 use Rattle.outcomes.specs.Outcome.{Outcome, accepted, lent}
+use Rattle.outcomes.specs.Refusal.{refusing}
+use Rattle.outcomes.specs.declared.Refusal.the-variants as refusal
 use Rattle.outcomes.specs.Checks.{NoneOf}
 use Rattle.outcomes.proofs.FirstOf.{first-none, first-accepted}
 use Rattle.outcomes.proofs.Refusals.{lent-old}
@@ -94,3 +96,10 @@ module _ (xs : List ℕ) (st : Store) (s e : ℕ) where
   -- under a refusal the list stays as it was
   pub add-refused : (addOutcome xs st s e .number ≡ 0 → ⊥) → addList xs st s e ≡ xs
   add-refused n = lent-old (addOutcome xs st s e) (stored more (st .count) xs) xs n
+
+  -- 2 and 3 come before narrow 4
+  pub add-empty : isBadStore xs (st .count) (limitOf (st .width)) ≡ false → s ≡ e → addOutcome xs st s e ≡ refusing refusal.EmptySegment
+  add-empty g h = rw (g, eq-eqb s e h)
+
+  pub add-reversed : isBadStore xs (st .count) (limitOf (st .width)) ≡ false → e < s → addOutcome xs st s e ≡ refusing (refusal.StartLargerThanEnd s e)
+  add-reversed g h = rw (g, ne-eqb s e (λ q. omega arith), lt-ltb e s h)

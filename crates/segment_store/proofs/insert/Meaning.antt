@@ -12,7 +12,7 @@ use borrow.Author.Tests.{eqb-false, ltb-true, ltb-false, eq-eqb, ne-eqb, le-ltb,
 use Rattle.ranges.specs.Range.{Range, range, In, Covers, Coalesced}
 use Rattle.ranges.specs.Run.{RunsOf}
 use Rattle.ranges.specs.Insert.{insert}
-use Rattle.ranges.specs.Store.{counted, capacity, limitOf, eitherAbove, stored}
+use Rattle.ranges.specs.Store.{counted, capacity, limitOf, isBadStore, eitherAbove, stored}
 use Rattle.outcomes.specs.Outcome.{Outcome, accepted, lent}
 use Rattle.outcomes.specs.Refusal.{refusing}
 use Rattle.outcomes.specs.declared.Refusal.the-variants as refusal
@@ -150,3 +150,7 @@ module _ (xs : List ℕ) (st : Store) (s e : ℕ) where
   -- under a refusal the list stays as it was
   pub insert-refused : (insertOutcome xs st s e .number ≡ 0 → ⊥) → insertList xs st s e ≡ xs
   insert-refused n = lent-old (insertOutcome xs st s e) (stored left (st .count) xs) xs n
+
+  -- 2 and 3 come before narrow 4
+  pub insert-reversed : isBadStore xs (st .count) (limitOf (st .width)) ≡ false → e < s → insertOutcome xs st s e ≡ refusing (refusal.StartLargerThanEnd s e)
+  insert-reversed g h = rw (g, ne-eqb s e (λ q. omega arith), lt-ltb e s h)

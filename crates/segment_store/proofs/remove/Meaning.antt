@@ -9,17 +9,17 @@ use Prim.Native.Nat.{ℕ, suc, _-_, _≤_, _<_}
 use native.Mathlib.Omega.{arith}
 use lib.ListN.{length, getD}
 use lib.Dec.{ltb, eqb}
-use borrow.Author.Tests.{ltb-true, ltb-false, eqb-true, eqb-false, eq-eqb, ne-eqb, le-ltb, not-false}
+use borrow.Author.Tests.{ltb-true, ltb-false, eqb-true, eqb-false, eq-eqb, ne-eqb, lt-ltb, le-ltb, not-false}
 use Rattle.ranges.specs.Range.{Range, range, In, Covers, Coalesced, Inside, Shares, some, inside, shares, rangeAt}
 use Rattle.ranges.specs.Without.{Outside, without}
-use Rattle.ranges.specs.Store.{counted, capacity, limitOf, eitherAbove, stored}
+use Rattle.ranges.specs.Store.{counted, capacity, limitOf, isBadStore, eitherAbove, stored}
 use Rattle.outcomes.specs.Outcome.{Outcome, accepted, lent}
 use Rattle.outcomes.specs.Refusal.{refusing}
 use Rattle.outcomes.specs.declared.Refusal.the-variants as refusal
 use Rattle.outcomes.specs.Checks.{NoneOf}
 use Rattle.outcomes.proofs.FirstOf.{first-none}
 use Rattle.outcomes.proofs.Refusals.{lent-old}
-use Rattle.ranges.proofs.Test.{or-false, coalesced-of, of-coalesced}
+use Rattle.ranges.proofs.Test.{or-false, or-true, coalesced-of, of-coalesced}
 use Rattle.ranges.proofs.Some.{some-member, inside-true, inside-set, shares-set}
 use Rattle.ranges.proofs.Holder.{holder, one-holder, member-at, at-member}
 use Rattle.ranges.proofs.Covering.{at-covers}
@@ -456,3 +456,9 @@ module _ (xs : List ℕ) (st : Store) (a b : ℕ) where
   -- under a refusal the list stays as it was
   pub remove-refused : (removeOutcome xs st a b .number ≡ 0 → ⊥) → removeList xs st a b ≡ xs
   remove-refused n = lent-old (removeOutcome xs st a b) (stored left (st .count) xs) xs n
+
+  -- narrow 4 comes before 2 and 3
+  pub remove-large : isBadStore xs (st .count) (limitOf (st .width)) ≡ false → (limitOf (st .width) < a) ⊎ (limitOf (st .width) < b)
+      → removeOutcome xs st a b ≡ refusing refusal.LargeFileSegmentNotSupported
+  remove-large g (inl h) = rw (g, lt-ltb top a h)
+  remove-large g (inr h) = rw (g, lt-ltb top b h, or-true (ltb top a))
