@@ -21,6 +21,16 @@ fn show_event(s: State, from: usize, out: &mut [u8; 65536]) -> State {
     state::answered(s, out, end)
 }
 
+fn show_data(s: State, kept: u64, out: &mut [u8; 65536]) -> State {
+    let at = noticed_or_kept(out, s.at, kept);
+    show_event(s, at, out)
+}
+
+fn show_ended(s: State, out: &mut [u8; 65536]) -> State {
+    let at = print::text(out, s.at, b"ended");
+    show_event(s, at, out)
+}
+
 pub fn data(
     s: State,
     memory: &mut [u64],
@@ -37,8 +47,7 @@ pub fn data(
     if a.refusal != 0 {
         return refusals::show_refusal(s, a, out);
     }
-    let at = noticed_or_kept(out, s.at, a.first);
-    show_event(state::with_record(s, after), at, out)
+    show_data(state::with_record(s, after), a.first, out)
 }
 
 pub fn metadata(s: State, memory: &[u64], out: &mut [u8; 65536]) -> State {
@@ -64,6 +73,5 @@ pub fn eof(s: State, memory: &mut [u64], size: u64, out: &mut [u8; 65536]) -> St
     if a.refusal != 0 {
         return refusals::show_refusal(s, a, out);
     }
-    let at = print::text(out, s.at, b"ended");
-    show_event(state::with_record(s, after), at, out)
+    show_ended(state::with_record(s, after), out)
 }
