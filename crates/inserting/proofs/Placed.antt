@@ -1,19 +1,21 @@
 -- What `first_reaching` finds, and what `insert` answers and leaves at each of its ends.
 use mathlib.Core.Path.{_≡_, refl, sym, ap, ap₂, _∙_}
-use mathlib.Core.List.{List, [], _∷_}
+use mathlib.Core.List.{List, [], _∷_, _++_}
 use Prim.Native.Nat.{ℕ, suc, _+_, _*_, _-_, _≤_, _<_, min, max}
 use native.Mathlib.Omega.{arith}
-use lib.ListN.{length}
+use lib.ListN.{length, set, length-append}
 use lib.Dec.{leb·zero}
 use borrow.Author.Tests.{lt-ltb, le-ltb}
-use Rattle.ranges.specs.Range.{Range, range, Coalesced, rangeAt}
+use Rattle.ranges.specs.Range.{Range, range, Above, Coalesced, rangeAt, lastEnd}
 use Rattle.ranges.specs.Store.{counted, stored, startAt, endAt}
 use Rattle.ranges.specs.Insert.{insert}
 use Rattle.ranges.specs.Inner.Cut.{first, behind, cutAnswer, cutList}
 use Rattle.ranges.specs.Inner.Moves.{replaced, ofTwo}
 use Rattle.ranges.specs.declared.inner.cut.Remains.{Remains}
 use Rattle.ranges.specs.declared.inner.cut.Remains.the-variants.{Full, Left}
-use Rattle.ranges.proofs.Flat.{getD-counted}
+use Rattle.ranges.proofs.Flat.{getD-counted, length-counted}
+use Rattle.ranges.proofs.Last.{ends-le, last-tail}
+use Rattle.ranges.proofs.Stored.{stored-push}
 use Rattle.ranges.proofs.Replaced.{length-replaced}
 use Rattle.inserting.specs.Inner.{reaching}
 use Rattle.inserting.proofs.Run.{made, insert-run}
@@ -76,3 +78,26 @@ module _ (xs : List ℕ) (n s e room i j : ℕ) (run : InsertRun xs n s e room i
   no-room h c =
       let w = puts s e (alone h) in
       rw (w .0, lt-ltb room (length (replaced i j (range s e ∷ []) rs)) (omega (arith, w .1))) (refl, refl)
+
+-- behind all ranges
+behind-all : (s e d : ℕ) (rs : List Range) → Above d rs → lastEnd rs < s → insert (range s e) rs ≡ rs ++ (range s e ∷ [])
+behind-all s e d [] a h = refl
+behind-all s e d (r ∷ rs) a h =
+    let k = ends-le d r rs a in
+    let l = last-tail d r rs a in
+    rw (lt-ltb (r .end) s (omega arith)) (ap (λ (qs : List Range). r ∷ qs) (behind-all s e (suc (r .end)) rs (a .2) (omega arith)))
+
+module _ (xs : List ℕ) (n s e room : ℕ) (counts : n ≤ room) (lies : 2 * room ≤ length xs) (whole : Coalesced (counted xs n)) (late : lastEnd (counted xs n) < s) where
+  abbrev new : List Range
+  new = counted xs n ++ (range s e ∷ [])
+
+  length-new : length new ≡ n + 1
+  length-new = length-append (counted xs n) (range s e ∷ []) ∙ ap (λ (k : ℕ). k + 1) (length-counted xs n (omega arith))
+
+  pub behind-full : n ≡ room → (Full ≡ cutAnswer room (insert (range s e) (counted xs n))) × (xs ≡ cutList room (insert (range s e) (counted xs n)) n xs)
+  behind-full h = rw (behind-all s e 0 (counted xs n) whole late, lt-ltb room (length new) (omega (arith, length-new))) (refl, refl)
+
+  pub behind-put : n < room
+      → (Left (n + 1) ≡ cutAnswer room (insert (range s e) (counted xs n)))
+      × (set (set xs (2 * n) s) (2 * n + 1) e ≡ cutList room (insert (range s e) (counted xs n)) n xs)
+  behind-put h = rw (behind-all s e 0 (counted xs n) whole late, le-ltb room (length new) (omega (arith, length-new))) (ap Left (sym length-new), stored-push xs n s e (omega arith))

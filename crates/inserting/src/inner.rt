@@ -9,8 +9,10 @@ ghost use Rattle.ranges.specs.Insert.{insert};
 ghost use Rattle.inserting.specs.Inner.{reaching};
 use lists::inner::moves::replace;
 use lists::inner::pairs::end_at;
+use lists::inner::pairs::put_pair;
 use lists::inner::pairs::start_at;
 use ranges::inner::cut::Remains;
+use searches::inner::checks::last_end;
 use searches::inner::halving::first_above;
 use searches::inner::halving::first_past;
 
@@ -40,8 +42,8 @@ fn first_reaching(list: &[u64], n: usize, s: u64) -> usize
     first_past(list, n, s - 1)
 }
 
-// The range (s, e) is put into the n ranges and joins those that it overlaps or touches. There is room for so many.
-pub fn insert(list: &mut [u64], n: usize, s: u64, e: u64, room: usize) -> Remains
+// The range (s, e) is put into the n ranges where it is found to go, and joins those that it overlaps or touches.
+fn insert_between(list: &mut [u64], n: usize, s: u64, e: u64, room: usize) -> Remains
     requires { ⌜ (n ≤ room) × ((2 * room ≤ length (now list)) × ((length (now list) ≤ mostNumbers) × (s < e))) ⌝ }
     requires { ⌜ Coalesced (counted (now list) n) ⌝ }
     ensures { λ r. ⌜ r ≡ cutAnswer room (insert (range s e) (counted (now (list .entry)) n)) ⌝ }
@@ -58,4 +60,22 @@ pub fn insert(list: &mut [u64], n: usize, s: u64, e: u64, room: usize) -> Remain
     let low = smaller(s, start_at(list, i));
     let high = larger(e, end_at(list, j - 1));
     Remains::Left(replace(list, n, i, j, 1, low, high, 0, 0))
+}
+
+// The range (s, e) is put into the n ranges and joins those that it overlaps or touches. There is room for so many. Behind all of them
+// it needs no search.
+pub fn insert(list: &mut [u64], n: usize, s: u64, e: u64, room: usize) -> Remains
+    requires { ⌜ (n ≤ room) × ((2 * room ≤ length (now list)) × ((length (now list) ≤ mostNumbers) × (s < e))) ⌝ }
+    requires { ⌜ Coalesced (counted (now list) n) ⌝ }
+    ensures { λ r. ⌜ r ≡ cutAnswer room (insert (range s e) (counted (now (list .entry)) n)) ⌝ }
+    ensures { λ _. ⌜ now (list .exit) ≡ cutList room (insert (range s e) (counted (now (list .entry)) n)) n (now (list .entry)) ⌝ }
+{
+    if s <= last_end(list, n) {
+        return insert_between(list, n, s, e, room);
+    }
+    if n == room {
+        return Remains::Full;
+    }
+    put_pair(list, n, s, e);
+    Remains::Left(n + 1)
 }
