@@ -21,8 +21,7 @@ use Rattle.octets.specs.Octets.{fits}
 use Rattle.octets.specs.Flag.{largestOf}
 use Rattle.nak.specs.declared.Identity.{Identity}
 use Rattle.nak.specs.Pdu.{Nak, pdu}
-use Rattle.nak.specs.Request.{requestsChecks, requestsOutcome}
-use Rattle.nak.proofs.Requests.{fine-requests, requests-fine}
+use Rattle.nak.specs.Request.{requestsChecks}
 use Rattle.nak.specs.Inner.{entries, GoodLengths}
 use Rattle.nak.specs.Writer.{largestPdu, isBadList, isBadLength, isBadIdentity, numbersOf, nakChecks, nakOutcome, writeChecks, writeOutcome, written}
 
@@ -105,7 +104,7 @@ all-entries xs e =
 pub record NakFine (n : Nak) : Type 0 where
   pub identity : isBadIdentity (n .identity) ≡ false
   pub scope : n .scope .start ≤ n .scope .end
-  pub requests : requestsOutcome (n .requests) ≡ accepted []
+  pub requests : NoneOf (requestsChecks (n .requests))
   pub numbers : anyAbove (largestOf (n .form .flag)) (numbersOf n) ≡ false
   pub size : length (pdu n) ≤ largestPdu
 
@@ -113,7 +112,7 @@ none-nak : (n : Nak) → NakFine n → NoneOf (nakChecks n)
 none-nak n f =
     let scope = le-ltb (n .scope .end) (n .scope .start) (f .scope) in
     let size = le-ltb largestPdu (length (pdu n)) (f .size) in
-    (f .identity, (scope, none-both (requestsChecks (n .requests)) _ (fine-requests (n .requests) (f .requests)) (f .numbers, (size, tt))))
+    (f .identity, (scope, none-both (requestsChecks (n .requests)) _ (f .requests) (f .numbers, (size, tt))))
 
 nak-none : (n : Nak) → NoneOf (nakChecks n) → NakFine n
 nak-none n m =
@@ -121,7 +120,7 @@ nak-none n m =
     record {
       identity = m .0;
       scope = ltb-false (n .scope .end) (n .scope .start) (m .1 .0);
-      requests = requests-fine (n .requests) (w .0);
+      requests = w .0;
       numbers = w .1 .0;
       size = ltb-false largestPdu (length (pdu n)) (w .1 .1 .0);
     }

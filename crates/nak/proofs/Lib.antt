@@ -5,3 +5,4 @@ pub mod Room
 pub mod Puts
 pub mod Checks
 pub mod Injective
+pub mod Asks

@@ -1,45 +1,40 @@
--- What the requests of a NAK may be (document 01, "each request in order").
-use mathlib.Core.Bool.{Bool, true, false, _&&_, not, cond}
+-- What the requests of a NAK may be (document 01, "each request in order"; the request for metadata at any place: document 02, C-12).
+use Prim.Native.Nat.{ℕ, zero, _+_, _<_}
+use mathlib.Core.Path.{_≡_}
+use mathlib.Core.Bool.{Bool, true, _&&_, not, cond}
+use mathlib.Core.Logic.{_⊎_}
 use mathlib.Core.List.{List, [], _∷_, _++_}
 use lib.Dec.{eqb, ltb}
 use Rattle.ranges.specs.Range.{Range}
-use Rattle.outcomes.specs.Outcome.{Outcome, accepted}
-use Rattle.outcomes.specs.Checks.{Check, firstOf}
+use Rattle.outcomes.specs.Checks.{Check}
 use Rattle.outcomes.specs.declared.Refusal.the-variants as refusal
 
 -- A request (0, 0) asks for metadata.
 abbrev pub isMetadata : Range → Bool
 isMetadata r = eqb (r .start) 0 && eqb (r .end) 0
 
--- One request: 3, or 2 unless it is a first (0, 0).
+-- One request: 3, or 2 unless it is the first (0, 0) of the list; `none` says that there was none yet.
 abbrev pub requestChecks : Bool → Range → List Check
-requestChecks first r =
+requestChecks none r =
     (ltb (r .end) (r .start), refusal.StartLargerThanEnd (r .start) (r .end))
-    ∷ (eqb (r .start) (r .end) && not (first && isMetadata r), refusal.EmptySegment)
+    ∷ (eqb (r .start) (r .end) && not (none && isMetadata r), refusal.EmptySegment)
     ∷ []
 
--- Each request in order; a request (0, 0) may stand only first: `first` says whether one may stand here.
+-- Each request in order; a request (0, 0) may stand anywhere, once.
 abbrev pub checksFrom : Bool → List Range → List Check
-checksFrom first [] = []
-checksFrom first (r ∷ rs) = requestChecks first r ++ checksFrom false rs
+checksFrom none [] = []
+checksFrom none (r ∷ rs) = requestChecks none r ++ checksFrom (none && not (isMetadata r)) rs
 
 -- A list of requests, from the first on.
 abbrev pub requestsChecks : List Range → List Check
 requestsChecks rs = checksFrom true rs
 
--- What one request is answered.
-unfoldable pub requestOutcome : Bool → Range → Outcome
-requestOutcome first r = firstOf (requestChecks first r) (accepted [])
+-- How many of the requests ask for metadata.
+abbrev pub metadataAsked : List Range → ℕ
+metadataAsked [] = zero
+metadataAsked (r ∷ rs) = cond (isMetadata r) 1 0 + metadataAsked rs
 
--- The refusal o, or, where o is none, what comes next.
-abbrev pub following : Outcome → Outcome → Outcome
-following o next = cond (eqb (o .number) 0) next o
-
--- What each request in order is answered, the first refusal or none.
-abbrev pub requestsFrom : Bool → List Range → Outcome
-requestsFrom first [] = accepted []
-requestsFrom first (r ∷ rs) = following (requestOutcome first r) (requestsFrom false rs)
-
--- The same of a list of requests, from the first on: by `requests-first`, the outcome of `requestsChecks`.
-abbrev pub requestsOutcome : List Range → Outcome
-requestsOutcome rs = requestsFrom true rs
+-- Each request has an offset or asks for metadata.
+abbrev pub EachAsks : List Range → Type 0
+EachAsks [] = Unit
+EachAsks (r ∷ rs) = ((r .start < r .end) ⊎ (isMetadata r ≡ true)) × EachAsks rs

@@ -20,9 +20,8 @@ use Rattle.octets.proofs.Fields.{number-below, octets-take, octets-drop}
 use Rattle.nak.specs.declared.Identity.{Identity}
 use Rattle.nak.specs.Header.{wrongFixed}
 use Rattle.nak.specs.Pdu.{nakCode}
-use Rattle.nak.specs.Request.{requestsChecks, requestsOutcome}
+use Rattle.nak.specs.Request.{requestsChecks}
 use Rattle.nak.specs.Writer.{largestPdu}
-use Rattle.nak.proofs.Requests.{requests-fine, fine-requests}
 use Rattle.nak.proofs.Checks.{none-append}
 use Rattle.nak_parser.specs.Parser.{octetAt, fieldAt, packetForm, fieldLengthIn, entityLengthIn, numberLengthIn, headerLengthIn, lengthField}
 use Rattle.nak_parser.specs.Parser.{scopeAt, behindScope, requestsAt, requestsIn, packetIdentity, scopeIn, packetRequests, isWrongLength, wrongLength, isWrongData, wrongData, shapeChecks, readChecks, readOutcome}
@@ -172,12 +171,12 @@ from-size p s b n = from-requests p s b ∙ first-none (requestsChecks (packetRe
 pub record Read (p : List ℕ) : Type 0 where
   pub shape : Shape p
   pub scope : scopeIn p .start ≤ scopeIn p .end
-  pub requests : requestsOutcome (packetRequests p) ≡ accepted []
+  pub requests : NoneOf (requestsChecks (packetRequests p))
   pub size : length p ≤ largestPdu
   pub outcome : readOutcome p ≡ accepted []
 
-pub read-fine : (p : List ℕ) → Shape p → scopeIn p .start ≤ scopeIn p .end → requestsOutcome (packetRequests p) ≡ accepted [] → length p ≤ largestPdu → readOutcome p ≡ accepted []
-read-fine p s b c d = rw (from-size p s b (fine-requests (packetRequests p) c), le-ltb largestPdu (length p) d)
+pub read-fine : (p : List ℕ) → Shape p → scopeIn p .start ≤ scopeIn p .end → NoneOf (requestsChecks (packetRequests p)) → length p ≤ largestPdu → readOutcome p ≡ accepted []
+read-fine p s b c d = rw (from-size p s b c, le-ltb largestPdu (length p) d)
 
 pub read-of : (p : List ℕ) → readOutcome p .number ≡ 0 → Read p
 unfolding readOutcome
@@ -189,7 +188,7 @@ read-of p z =
     record {
       shape = s;
       scope = ltb-false (scopeIn p .end) (scopeIn p .start) (m .1 .0);
-      requests = requests-fine (packetRequests p) (w .0);
+      requests = w .0;
       size = ltb-false largestPdu (length p) (w .1 .0);
       outcome = first-none (readChecks p) (accepted []) n;
     }

@@ -2,6 +2,7 @@
 use nak::Form;
 use nak::inner::lengths::header_length;
 use nak::inner::requests::is_empty;
+use nak::inner::requests::none_after;
 use octets::LargeFileFlag;
 use octets::inner::get;
 use outcomes::Refusal;
@@ -153,6 +154,7 @@ pub fn check_packet(packet: &[u8], from: usize, f: usize, count: usize) -> Verdi
     ensures { λ r. ⌜ verdictCase r ≡ firstOf (requestsChecks (requestsIn f count (drop from (now (packet .entry))))) (accepted []) ⌝ }
 {
     let mut at = from;
+    let mut none = true;
     let mut i = 0;
     while i < count {
         let s = get(packet, at, f);
@@ -160,9 +162,10 @@ pub fn check_packet(packet: &[u8], from: usize, f: usize, count: usize) -> Verdi
         if e < s {
             return Verdict::Refused(Refusal::StartLargerThanEnd(s, e));
         }
-        if is_empty(i, s, e) {
+        if is_empty(none, s, e) {
             return Verdict::Refused(Refusal::EmptySegment);
         }
+        none = none_after(none, s, e);
         at += 2 * f;
         i += 1;
     }

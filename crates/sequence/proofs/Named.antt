@@ -15,6 +15,7 @@ use Rattle.ranges.specs.declared.Width.{Width}
 use Rattle.ranges.proofs.Covering.{above-covers, at-covers}
 use Rattle.ranges.proofs.Fewest.{fewest}
 use Rattle.ranges.proofs.Test.{and-none}
+use Rattle.nak.specs.Request.{metadataAsked}
 use Rattle.nak.specs.Writer.{isBadIdentity}
 use Rattle.reception.specs.History.{Event, State, fresh, run, rangesOf, metadataCame, kept, largestEnd, toldSize, Missing}
 use Rattle.reception.specs.Record.{Passed}
@@ -25,7 +26,7 @@ use Rattle.reception.proofs.Histories.{missing-exact, list-coalesced, always-so
 use Rattle.sequence.specs.Entries.{Asking, entriesOf, roundedUp, naks, octetsOf}
 use Rattle.sequence.specs.Sequence.{Order, isBadSize, isTooLarge, asked}
 use Rattle.sequence.specs.Calls.{Call, Fits, AllFit, answered, cursorAfter, pdusBy, octetsBy, budgets, wholeSequence}
-use Rattle.sequence.specs.Parted.{parted, joined, AllRead, ScopesJoin, requestsRead, metadataAsked}
+use Rattle.sequence.specs.Parted.{parted, joined, AllRead, ScopesJoin, requestsRead}
 use Rattle.sequence.proofs.Sizes.{each-low}
 use Rattle.sequence.proofs.Together.{length-naks, up-enough, ran, run-accepted, run-whole, run-pdus, run-cursor}
 use Rattle.sequence.proofs.Parting.{pdus, length-pdus, joined-pdus, requests-naks, parted-naks, all-read, scopes-join, requests-read}

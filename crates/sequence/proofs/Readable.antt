@@ -1,7 +1,7 @@
 -- Each PDU of a sequence that is sent is a PDU within the limits: no scope starts after its end, no offset is cut, each request may
 -- stand where it does. So the reader accepts it, and gives back identity, form, scope and requests.
 use mathlib.Core.Path.{_≡_, refl, sym, ap}
-use mathlib.Core.Bool.{Bool, true, false}
+use mathlib.Core.Bool.{Bool, true, false, _&&_, not}
 use mathlib.Core.List.{List, [], _∷_}
 use Prim.Native.Nat.{ℕ, zero, suc, _+_, _-_, _≤_, _<_}
 use native.Mathlib.Omega.{arith}
@@ -16,7 +16,8 @@ use Rattle.nak.specs.declared.Form.{Form}
 use Rattle.nak.specs.declared.Identity.{Identity}
 use Rattle.octets.specs.Flag.{largestOf}
 use Rattle.nak.specs.Pdu.{pdu}
-use Rattle.nak.specs.Request.{requestOutcome, requestsFrom, requestsOutcome}
+use Rattle.nak.specs.Request.{isMetadata, checksFrom, requestsChecks}
+use Rattle.outcomes.specs.Checks.{NoneOf}
 use Rattle.nak.specs.Writer.{isBadIdentity, nakOutcome}
 use Rattle.nak.proofs.Checks.{NakFine, fine-nak}
 use Rattle.nak_parser.specs.Parser.{Says, readOutcome}
@@ -52,24 +53,21 @@ within-drop p (suc n) [] w = tt
 within-drop p (suc n) (r ∷ rs) w = within-drop p n rs (w .2)
 
 -- such ranges may be asked for anywhere, and none of their numbers is above p
-one-fine : (b : Bool) (r : Range) → r .start < r .end → requestOutcome b r ≡ accepted []
-unfolding requestOutcome
-one-fine b r h = rw (le-ltb (r .end) (r .start) (omega arith), ne-eqb (r .start) (r .end) (λ e. omega arith))
-
-within-fine : (b : Bool) (p : ℕ) (rs : List Range) → Within p rs → requestsFrom b rs ≡ accepted []
-within-fine b p [] w = refl
-within-fine b p (r ∷ rs) w = rw (one-fine b r (w .0)) (within-fine false p rs (w .2))
+within-fine : (b : Bool) (p : ℕ) (rs : List Range) → Within p rs → NoneOf (checksFrom b rs)
+within-fine b p [] w = tt
+within-fine b p (r ∷ rs) w =
+    let h = w .0 in
+    (le-ltb (r .end) (r .start) (omega arith), (rw (ne-eqb (r .start) (r .end) (λ e. omega arith)), within-fine (b && not (isMetadata r)) p rs (w .2)))
 
 within-numbers : (p top : ℕ) (rs : List Range) → p ≤ top → Within p rs → anyAbove top (flat rs) ≡ false
 within-numbers p top [] h w = refl
 within-numbers p top (r ∷ rs) h w = rw (le-ltb top (r .start) (omega arith), le-ltb top (r .end) (omega arith)) (within-numbers p top rs h (w .2))
 
 -- the entries of one PDU
-entries-fine : (m : Bool) (p k f : ℕ) (rs : List Range) → Within p rs → requestsOutcome (take k (drop f (entriesOf m rs))) ≡ accepted []
-unfolding requestOutcome
+entries-fine : (m : Bool) (p k f : ℕ) (rs : List Range) → Within p rs → NoneOf (requestsChecks (take k (drop f (entriesOf m rs))))
 entries-fine false p k f rs w = within-fine true p (take k (drop f rs)) (within-take p k (drop f rs) (within-drop p f rs w))
-entries-fine true p zero f rs w = refl
-entries-fine true p (suc k) zero rs w = within-fine false p (take k rs) (within-take p k rs w)
+entries-fine true p zero f rs w = tt
+entries-fine true p (suc k) zero rs w = (refl, (refl, within-fine false p (take k rs) (within-take p k rs w)))
 entries-fine true p (suc k) (suc f) rs w = within-fine true p (take (suc k) (drop f rs)) (within-take p (suc k) (drop f rs) (within-drop p f rs w))
 
 entries-numbers : (m : Bool) (p top k f : ℕ) (rs : List Range) → p ≤ top → Within p rs → anyAbove top (flat (take k (drop f (entriesOf m rs)))) ≡ false

@@ -46,8 +46,3 @@ ScopesJoin s e (p ∷ ps) = (parsedOf p .«scope_start» ≡ s) × ScopesJoin (p
 abbrev pub requestsRead : List (List ℕ) → List Range
 requestsRead [] = []
 requestsRead (p ∷ ps) = requestsGiven p ++ requestsRead ps
-
--- How many of the requests ask for metadata.
-abbrev pub metadataAsked : List Range → ℕ
-metadataAsked [] = zero
-metadataAsked (r ∷ rs) = cond (isMetadata r) 1 0 + metadataAsked rs

@@ -27,17 +27,30 @@ pub fn bad_list(requests: &[u64]) -> bool
     }
 }
 
-// Whether the request (s, e) at place i is empty and not the one for metadata, which may stand first.
-pub fn is_empty(i: usize, s: u64, e: u64) -> bool
-    ensures { λ r. ⌜ r ≡ (eqb s e && not (eqb i 0 && isMetadata (range s e))) ⌝ }
+// Whether the request (s, e) is empty and not the one for metadata; `none` says that there was none for metadata yet.
+pub fn is_empty(none: bool, s: u64, e: u64) -> bool
+    ensures { λ r. ⌜ r ≡ (eqb s e && not (none && isMetadata (range s e))) ⌝ }
 {
     if s != e {
         return false;
     }
-    if i != 0 {
+    if !none {
         return true;
     }
     s != 0
+}
+
+// Whether there is none for metadata up to (s, e).
+pub fn none_after(none: bool, s: u64, e: u64) -> bool
+    ensures { λ r. ⌜ r ≡ (none && not (isMetadata (range s e))) ⌝ }
+{
+    if !none {
+        return false;
+    }
+    if s != 0 {
+        return true;
+    }
+    e != 0
 }
 
 // Each request of a flat list in order.
@@ -45,6 +58,7 @@ pub fn check_requests(requests: &[u64]) -> Verdict
     ensures { λ r. ⌜ verdictCase r ≡ firstOf (requestsChecks (pairs (now (requests .entry)))) (accepted []) ⌝ }
 {
     let count = requests.len() / 2;
+    let mut none = true;
     let mut i = 0;
     while i < count {
         let s = requests[2 * i];
@@ -52,9 +66,10 @@ pub fn check_requests(requests: &[u64]) -> Verdict
         if e < s {
             return Verdict::Refused(Refusal::StartLargerThanEnd(s, e));
         }
-        if is_empty(i, s, e) {
+        if is_empty(none, s, e) {
             return Verdict::Refused(Refusal::EmptySegment);
         }
+        none = none_after(none, s, e);
         i += 1;
     }
     Verdict::Passed

@@ -1,5 +1,5 @@
 -- `nak::inner::requests::check_requests` meets its contract. The loop's invariant: the outcome of the requests ahead is that of all.
-use Rattle.nak.proofs.Requests.{late-start, empty-one, fine-one, not-first}
+use Rattle.nak.proofs.Requests.{late-start, empty-one, fine-one}
 use Rattle.nak.proofs.Flat.{pairs-turn, pairs-short}
 use Rattle.nak.specs.Request.{checksFrom}
 use Rattle.outcomes.specs.Outcome.{Outcome, accepted}
@@ -9,7 +9,6 @@ use mathlib.Core.Bool.{Bool, true}
 use mathlib.Core.List.{List, []}
 use Rattle.ranges.specs.Store.{pairs}
 use lib.ListN.{length-drop}
-use lib.Dec.{eqb}
 use borrow.Author.Needs.{needs}
 use native.Mathlib.Omega.{arith}
 use Prim.Native.Nat.{_*_, _-_, _≤_}
@@ -20,13 +19,13 @@ use Rattle.nak.proofs.inner.requests.check_requests.Tie as tie
 
 -- what the checks of requests say
 abbrev said : Bool → List Range → Outcome
-said first rs = firstOf (checksFrom first rs) (accepted [])
+said none rs = firstOf (checksFrom none rs) (accepted [])
 
 abbrev Inv-loop : tie.InvT-loop
-Inv-loop requests count i₀ i = (i ≤ count) × (said (eqb i 0) (pairs (drop (2 * i) requests)) ≡ said true (pairs requests))
+Inv-loop requests count none₀ i₀ none i = (i ≤ count) × (said none (pairs (drop (2 * i) requests)) ≡ said true (pairs requests))
 
 abbrev μ-loop : tie.MeasureT-loop
-μ-loop requests count i₀ i = count - i
+μ-loop requests count none₀ i₀ none i = count - i
 
 loop-holds : tie.Need-loop-holds Inv-loop μ-loop
 loop-holds c = (search needs, refl)
@@ -57,7 +56,7 @@ returns c =
     let l = c .before .before .before .before .loop in
     let a = c .before .before .before .before .before .before .args in
     let t = pairs-turn (a .requests .now) (l .i) (omega arith) in
-    sym (late-start (eqb (l .i) 0) (accepted []) t (c .if1 .taken)) ∙ l .inv .1
+    sym (late-start (l .none) (accepted []) t (c .if1 .taken)) ∙ l .inv .1
 
 is-empty-requires : tie.Need-is-empty-requires Inv-loop μ-loop
 is-empty-requires c κs = search needs
@@ -67,7 +66,10 @@ returns-2 c =
     let l = c .before .before .before .before .before .before .loop in
     let a = c .before .before .before .before .before .before .before .before .args in
     let t = pairs-turn (a .requests .now) (l .i) (omega arith) in
-    sym (empty-one (eqb (l .i) 0) (accepted []) t (omega arith) (sym (c .before .is-empty .ensures) ∙ c .if2 .taken)) ∙ l .inv .1
+    sym (empty-one (l .none) (accepted []) t (omega arith) (sym (c .before .is-empty .ensures) ∙ c .if2 .taken)) ∙ l .inv .1
+
+none-after-requires : tie.Need-none-after-requires Inv-loop μ-loop
+none-after-requires c κs = search needs
 
 add-i : tie.Need-add-i Inv-loop μ-loop
 add-i c = search needs
@@ -77,10 +79,11 @@ loop-less c = search needs
 
 loop-again : tie.Need-loop-again Inv-loop μ-loop
 loop-again c =
-    let l = c .before .before .before .before .before .before .loop in
-    let a = c .before .before .before .before .before .before .before .before .args in
+    let l = c .before .before .before .before .before .before .before .loop in
+    let a = c .before .before .before .before .before .before .before .before .before .args in
     let t = pairs-turn (a .requests .now) (l .i) (omega arith) in
-    (search needs, rw not-first (sym (fine-one (eqb (l .i) 0) (accepted []) t (omega arith) (sym (c .before .is-empty .ensures) ∙ c .if2 .left)) ∙ l .inv .1))
+    let fine = fine-one (l .none) (accepted []) t (omega arith) (sym (c .before .before .is-empty .ensures) ∙ c .before .if2 .left) in
+    (search needs, rw (c .none-after .ensures) (sym fine ∙ l .inv .1))
 
 returns-3 : tie.Need-returns-3 Inv-loop μ-loop
 returns-3 c =
@@ -106,6 +109,7 @@ check-requests-spec =
     returns
     is-empty-requires
     returns-2
+    none-after-requires
     add-i
     loop-less
     loop-again
