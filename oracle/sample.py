@@ -171,10 +171,10 @@ def metadata_anywhere(rng):
              [meta, turned, meta], [meta, meta, turned], [empty, turned, meta], [turned, empty, meta], [meta, empty, turned], [meta, turned, empty]]
     out += [line for requests, flag in itertools.product(lists, FLAGS)
             for line in written_and_read([1, 1, 1, 7, 2], flag, 0, 1000, requests)]
-    out.append('# Every other order of up to three, longer ones, a second (0, 0) before 7, 14 and 6, PDUs of 4,096 octets and more.')
-    blocks = list(scripts.blocks(scripts.pdus_metadata, 'sample'))
-    few, above = sum(4**n for n in range(4)), sum(4**n for n in range(5))
-    for block in blocks[:few] + blocks[above:above + 18] + rng.sample(blocks[above + 18:], 30):
+    out.append('# Every order of up to three, and longer ones; a second (0, 0) before 7, 14 and 6, in the longest PDUs and longer ones too.')
+    orders, checks = [list(scripts.blocks(of, 'sample')) for of in (scripts.pdus_metadata, scripts.pdus_metadata_checks)]
+    three, four = sum(4**n for n in range(4)), sum(4**n for n in range(5))
+    for block in orders[:three] + checks + rng.sample(orders[four:], 30):
         out += block[1:]
     return out
 

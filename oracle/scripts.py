@@ -773,34 +773,38 @@ def written_and_read(ident, flag, start, end, requests, more=0):
 
 
 def metadata_words():
-    """Lists of requests as words of the letters above: every one of up to four, and longer ones with two or three that are not good."""
-    every = [''.join(word) for n in range(5) for word in itertools.product(LETTERS, repeat=n)]
-    longer = ['g' * a + first + 'g' * b + second + 'g' * c for first, second, a, b, c in itertools.product(
-        ('m', 'e', 'r', 'mm'), ('', 'm', 'e', 'r'), (0, 1, 7), (0, 7), (0, 1, 7)) if a + b + c > 4]
-    return every, longer
+    """Lists of requests as words of the letters above: every one of up to four, then longer ones with one to three that are not good."""
+    for n in range(5):
+        yield from map(''.join, itertools.product(LETTERS, repeat=n))
+    for first, second, a, b, c in itertools.product(('m', 'e', 'r', 'mm'), ('', 'm', 'e', 'r'), (0, 1, 7), (0, 7), (0, 1, 7)):
+        if a + b + c > 4:
+            yield 'g' * a + first + 'g' * b + second + 'g' * c
 
 
 def pdus_metadata(rng):
-    """One PDU written and read for each order of good, metadata, other empty and reversed requests, up to four of them, both
-    flags (C-12): (0, 0) first, in the middle, last, alone, twice, with 2 and 3 before and behind it; 2 at its place before 7, 14
-    and 6; PDUs of just 4,096 octets and of more with (0, 0) at the ends; then some longer lists: pdu, nak, 2, 3, 6, 7, 14."""
-    def each_flag(word):
-        lines = [written_and_read([1, 1, 1, 7, 2], flag, 0, 1000, [request_of(rng, letter, flag == 'large') for letter in word])
-                 for flag in FLAGS]
-        return ['new wide 0', *lines[0], *lines[1]]
+    """One PDU written and read for each order of good, metadata, other empty and reversed requests, up to four of them and some
+    longer, both flags (C-12): (0, 0) first, in the middle, last, alone, twice, with 2 and 3 before and behind it: pdu, nak, 2, 3."""
+    for word in metadata_words():
+        block = ['new wide 0']
+        for flag in FLAGS:
+            requests = [request_of(rng, letter, flag == 'large') for letter in word]
+            block += written_and_read([1, 1, 1, 7, 2], flag, 0, 1000, requests)
+        yield block
 
-    every, longer = metadata_words()
-    yield from map(each_flag, every)
+
+def pdus_metadata_checks(rng):
+    """A second (0, 0) before 7, 14 and 6, and a single one where they are the answer; PDUs of as many requests as 4,096 octets hold,
+    and of one more, with (0, 0) last, and first and last, both flags (C-12): pdu, nak, 2, 6, 7, 14."""
     above, last, twice = (1, NARROW + 1), [(1, 2), (0, 0)], [(0, 0), (1, 2), (0, 0)]
     for requests, more in itertools.product(([above, *last], [*last, above], [above, *twice], [*twice, above], [(0, 0), above, (0, 0)]), (0, 1)):
         flat = [n for pair in requests for n in pair]
         yield ['new wide 0', words('write', 1, 1, 1, 7, 2, 'normal', 3, 4, 16 + 8 * len(requests) + more, *flat),
                *written_and_read([1, 1, 1, 7, 2], 'large', 3, 4, requests, more)]
-    for (flag, n), extra in itertools.product((('normal', 510), ('large', 254)), (0, 1)):
-        for places in ((n + extra - 1,), (0, n + extra - 1)):
-            requests = [(0, 0) if place in places else (2 * place, 2 * place + 1) for place in range(n + extra)]
+    for (flag, fit), extra in itertools.product((('normal', 510), ('large', 254)), (0, 1)):
+        n = fit + extra
+        for places in ((n - 1,), (0, n - 1)):
+            requests = [(0, 0) if place in places else (2 * place, 2 * place + 1) for place in range(n)]
             yield ['new wide 0', *written_and_read([1, 1, 1, 7, 2], flag, 0, 9999, requests)]
-    yield from map(each_flag, longer)
 
 
 def pdus_written(rng):
@@ -1025,7 +1029,7 @@ STORE = [store_remove_places, store_insert_places, store_insert_checks, store_in
          store_insert_history, store_insert_full]
 EVENTS = [events_small, eof_places, eof_small, eof_checks, eof_data_small, eof_slots, records_small, records_edges, events_history, eof_history,
           events_wide_lists, eof_wide_lists, records_broken]
-PDUS = [pdus_metadata, pdus_lengths, pdus_limits, pdus_written, pdus_read]
+PDUS = [pdus_metadata, pdus_metadata_checks, pdus_lengths, pdus_limits, pdus_written, pdus_read]
 SEQUENCES = [sequences_runs, sequences_any]
 REST = [*EVENTS, *PDUS, *SEQUENCES, nonsense]
 
