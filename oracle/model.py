@@ -1,8 +1,8 @@
 #!/usr/bin/env python3
-"""A model of the console, written from document 01, document 02's C-14, C-16 and C-19 and the console's language alone.
+"""A model of the console, written from document 01, document 02's C-12, C-14, C-16 and C-19 and the console's language alone.
 
     model.py [SCRIPT]      answers the script (or standard input) as the program must
-    model.py --self-test   holds the interval algebra against plain sets of offsets
+    model.py --self-test   holds the interval algebra against plain sets of offsets, and a PDU's requests against words of letters
 
 Numbers are Python's, lists are lists of pairs; nothing here follows the Rust or the port.
 """
@@ -100,10 +100,12 @@ def check_identity(identity):
 
 
 def check_requests(requests):
+    """Each request in its turn. Of those that are empty the first (0, 0) is fine, wherever it stands."""
+    metadata = [place for place, request in enumerate(requests) if request == (0, 0)]
     for place, (s, e) in enumerate(requests):
         if s > e:
             raise Refused(3, s, e)
-        if s == e and not (place == 0 and s == 0):
+        if s == e and place not in metadata[:1]:
             raise Refused(2)
 
 
@@ -485,7 +487,7 @@ def answers(script):
             yield at, answer
 
 
-# Sets of offsets, one by one, against the algebra above.
+# Sets of offsets, one by one, against the algebra above; words of letters against the checks of a PDU's requests.
 
 def offsets(pairs):
     return {x for s, e in pairs for x in range(s, e)}
@@ -560,6 +562,29 @@ def data_of_sets(members, progress, size, missing, capacity, a, b):
     return f'{"noticed" if missing else "kept"} {len(left)} {front}', left, front, size
 
 
+def refused_of_letters(word):
+    """C-12 said of a word, a letter for each request (good, metadata, another empty one, reversed): the longest beginning that
+    has m at most once, and g for the rest, is fine, and the letter behind it is refused."""
+    fine = re.match('g*m?g*', word).end()
+    return {'': None, 'r': 3}.get(word[fine:fine + 1], 2)
+
+
+def round_trip(large, requests):
+    """A PDU of these requests written and read: the requests that were read, and the number that both refuse it with."""
+    identity, flat = [1, 1, 1, 7, 2], [n for pair in requests for n in pair]
+    octets, numbers = packet(identity, large, 0, 9, requests), []
+    for call, args in ((write, (identity, large, 0, 9, len(octets), flat)), (read, (octets,))):
+        try:
+            said = call(*args)
+            assert call is read or said == octets, requests
+            numbers.append(None)
+        except Refused as refusal:
+            said = None
+            numbers.append(refusal.words[0])
+    assert numbers[0] == numbers[1], requests
+    return said and said[4], numbers[0]
+
+
 def self_test():
     import itertools
     small = [(s, e) for s in range(5) for e in range(5)]
@@ -596,6 +621,13 @@ def self_test():
                     assert said == data_of_sets(members, *record, a, b), (pairs, record, a, b)
                     done += 1
     print(f'self-test: {done} cases agree with sets of offsets')
+    letters, done = {'g': (3, 9), 'm': (0, 0), 'e': (5, 5), 'r': (9, 4)}, 0
+    for n, large in itertools.product(range(7), (False, True)):
+        for word in map(''.join, itertools.product(letters, repeat=n)):
+            requests, refused = [letters[letter] for letter in word], refused_of_letters(word)
+            assert round_trip(large, requests) == (None if refused else requests, refused), word
+            done += 1
+    print(f'self-test: {done} PDUs are written and read as words of letters say, each request in its place')
 
 
 def main():

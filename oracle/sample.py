@@ -11,7 +11,7 @@ import random
 
 import model
 import scripts
-from scripts import FLAGS, NARROW, WIDTHS, octets_of, set_list, spans, words
+from scripts import FLAGS, NARROW, WIDTHS, octets_of, set_list, spans, words, written_and_read
 
 CRATE = os.path.join(os.path.dirname(os.path.dirname(os.path.abspath(__file__))), 'crates', 'pusmarke')
 SCRIPT, ANSWERS = os.path.join(CRATE, 'data', 'sample.script'), os.path.join(CRATE, 'stdout')
@@ -158,8 +158,29 @@ def short(generator, blocks, most):
             for line in block if len(line) <= most]
 
 
+def metadata_anywhere(rng):
+    """Document 02, C-12: the metadata request at each place, twice, and with other empty and reversed requests around it."""
+    meta, good, empty, turned = (0, 0), (100, 200), (5, 5), (200, 100)
+    out = ['# Document 02, C-12: (0, 0) last, in the middle, first, alone; a second one, next to it and apart, is 2.']
+    lists = [[good, meta], [good, meta, (300, 400)], [meta, good], [meta], [meta, meta], [good, meta, meta], [meta, good, meta],
+             [good, meta, (300, 400), meta], [meta] * 3]
+    out += [line for requests, flag in itertools.product(lists, FLAGS)
+            for line in written_and_read([1, 1, 1, 7, 2], flag, 0, 1000, requests)]
+    out.append('# (5, 5) is 2 wherever it stands, a reversed request 3; each in its turn among the requests.')
+    lists = [[empty, meta], [meta, empty], [empty, meta, good], [good, meta, empty], [turned, meta], [meta, turned], [turned, meta, meta],
+             [meta, turned, meta], [meta, meta, turned], [empty, turned, meta], [turned, empty, meta], [meta, empty, turned], [meta, turned, empty]]
+    out += [line for requests, flag in itertools.product(lists, FLAGS)
+            for line in written_and_read([1, 1, 1, 7, 2], flag, 0, 1000, requests)]
+    out.append('# Every order of up to three, and longer ones; a second (0, 0) before 7, 14 and 6, in the longest PDUs and longer ones too.')
+    orders, checks = [list(scripts.blocks(of, 'sample')) for of in (scripts.pdus_metadata, scripts.pdus_metadata_checks)]
+    three, four = sum(4**n for n in range(4)), sum(4**n for n in range(5))
+    for block in orders[:three] + checks + rng.sample(orders[four:], 30):
+        out += block[1:]
+    return out
+
+
 def codec(rng):
-    """PDUs written and read: the example, every identifier length, damaged copies, the limits."""
+    """PDUs written and read: the example, the metadata request at any place, every identifier length, damaged copies, the limits."""
     out = ['# Document 01\'s example packet, then the same with every bit turned in its turn.',
            'write 1 1 1 7 2 normal 0 1000 32 0 0 100 200', words('read', EXAMPLE)]
     for bit in range(8 * len(EXAMPLE) // 2):
@@ -168,12 +189,13 @@ def codec(rng):
         out.append(words('read', damaged.hex()))
     out.append('# Every shorter part of it, and one octet more.')
     out += [words('read', EXAMPLE[:2 * n]).strip() for n in range(len(EXAMPLE) // 2)] + [words('read', EXAMPLE + '00')]
+    out += metadata_anywhere(rng)
     out.append('# Every identifier length, both flags.')
     for i, q, flag in itertools.product(range(1, 9), range(1, 9), FLAGS):
         ident = [i, q, *[rng.choice((0, 256**n - 1, rng.randrange(256**n), rng.randrange(256**n))) for n in (i, q, i)]]
         large = flag == 'large'
         top = 2**64 - 1 if large else NARROW
-        requests = rng.choice(([], [(0, 0)], [(0, 0), (100, 200)], [(5, top)], [(0, 1), (top - 1, top)]))
+        requests = rng.choice(([], [(0, 0)], [(0, 0), (100, 200)], [(100, 200), (0, 0)], [(5, top)], [(0, 1), (top - 1, top)]))
         packet = octets_of(ident, large, 3, top, requests)
         flat = [n for pair in requests for n in pair]
         out += [words('write', *ident, flag, 3, top, len(packet), *flat), words('read', packet.hex())]

@@ -11,6 +11,7 @@ An exhaustive generator ends; the others go on for ever and are the same for the
 """
 import itertools
 import random
+import re
 import sys
 
 TOP = 2**64 - 1
@@ -716,17 +717,17 @@ def some_requests(rng, large, n):
         s = rng.choice((0, rng.randint(0, most), rng.randint(0, 999), most - 1))
         out.append((s, min(most, s + rng.choice((1, 2, 100, 2**20)))))
     if n and rng.random() < 0.4:
-        out[0] = (0, 0)
+        out[rng.choice((0, n - 1, rng.randrange(n)))] = (0, 0)
     return out
 
 
 def pdus_lengths(rng):
     """One packet written and read for each of the 64 pairs of identifier lengths, both flags, with and
-    without a metadata request, and each buffer one short and one long: pdu, nak, 6."""
+    without a metadata request, first and last, and each buffer one short and one long: pdu, nak, 6."""
     for i, q, flag in itertools.product(range(1, 9), range(1, 9), FLAGS):
         large = flag == 'large'
         block = ['new wide 0']
-        for requests in ([], [(0, 0)], [(0, 0), (100, 200)], [(5, 2**31)]):
+        for requests in ([], [(0, 0)], [(0, 0), (100, 200)], [(100, 200), (0, 0)], [(5, 2**31)]):
             ident = [i, q, *[rng.randrange(256**length) for length in (i, q, i)]]
             packet = octets_of(ident, large, 3, 1000, requests)
             flat = [n for pair in requests for n in pair]
@@ -747,6 +748,63 @@ def pdus_limits(rng):
             packet = octets_of(ident, large, 0, 9999, requests)
             flat = [n for pair in requests for n in pair]
             yield ['new wide 0', words('write', *ident, flag, 0, 9999, len(packet), *flat), words('read', packet.hex())]
+
+
+# A letter for each kind of request: good, metadata, another empty one, reversed.
+LETTERS = 'gmer'
+
+
+def request_of(rng, letter, large):
+    """A request of that kind; of the empty ones also one whose lower half is that of (0, 0)."""
+    most, half = (TOP, 2**32) if large else (NARROW, 2**16)
+    if letter == 'm':
+        return 0, 0
+    if letter == 'e':
+        return (rng.choice((5, 5, 1, 256, half, most)),) * 2
+    low, high = rng.choice(((100, 200), (0, 1), (0, 256), (0, half), (5, most), (most - 1, most)))
+    return (low, high) if letter == 'g' else (high, low)
+
+
+def written_and_read(ident, flag, start, end, requests, more=0):
+    """Lines that write a PDU of these requests, into a buffer of its length and some more, and that read its octets."""
+    packet = octets_of(ident, flag == 'large', start, end, requests)
+    flat = [n for pair in requests for n in pair]
+    return [words('write', *ident, flag, start, end, len(packet) + more, *flat), words('read', packet.hex())]
+
+
+def metadata_words():
+    """Lists of requests as words of the letters above: every one of up to four, then longer ones with one to three that are not good."""
+    for n in range(5):
+        yield from map(''.join, itertools.product(LETTERS, repeat=n))
+    for first, second, a, b, c in itertools.product(('m', 'e', 'r', 'mm'), ('', 'm', 'e', 'r'), (0, 1, 7), (0, 7), (0, 1, 7)):
+        if a + b + c > 4:
+            yield 'g' * a + first + 'g' * b + second + 'g' * c
+
+
+def pdus_metadata(rng):
+    """One PDU written and read for each order of good, metadata, other empty and reversed requests, up to four of them and some
+    longer, both flags (C-12): (0, 0) first, in the middle, last, alone, twice, with 2 and 3 before and behind it: pdu, nak, 2, 3."""
+    for word in metadata_words():
+        block = ['new wide 0']
+        for flag in FLAGS:
+            requests = [request_of(rng, letter, flag == 'large') for letter in word]
+            block += written_and_read([1, 1, 1, 7, 2], flag, 0, 1000, requests)
+        yield block
+
+
+def pdus_metadata_checks(rng):
+    """A second (0, 0) before 7, 14 and 6, and a single one where they are the answer; PDUs of as many requests as 4,096 octets hold,
+    and of one more, with (0, 0) last, and first and last, both flags (C-12): pdu, nak, 2, 6, 7, 14."""
+    above, last, twice = (1, NARROW + 1), [(1, 2), (0, 0)], [(0, 0), (1, 2), (0, 0)]
+    for requests, more in itertools.product(([above, *last], [*last, above], [above, *twice], [*twice, above], [(0, 0), above, (0, 0)]), (0, 1)):
+        flat = [n for pair in requests for n in pair]
+        yield ['new wide 0', words('write', 1, 1, 1, 7, 2, 'normal', 3, 4, 16 + 8 * len(requests) + more, *flat),
+               *written_and_read([1, 1, 1, 7, 2], 'large', 3, 4, requests, more)]
+    for (flag, fit), extra in itertools.product((('normal', 510), ('large', 254)), (0, 1)):
+        n = fit + extra
+        for places in ((n - 1,), (0, n - 1)):
+            requests = [(0, 0) if place in places else (2 * place, 2 * place + 1) for place in range(n)]
+            yield ['new wide 0', *written_and_read([1, 1, 1, 7, 2], flag, 0, 9999, requests)]
 
 
 def pdus_written(rng):
@@ -971,7 +1029,9 @@ STORE = [store_remove_places, store_insert_places, store_insert_checks, store_in
          store_insert_history, store_insert_full]
 EVENTS = [events_small, eof_places, eof_small, eof_checks, eof_data_small, eof_slots, records_small, records_edges, events_history, eof_history,
           events_wide_lists, eof_wide_lists, records_broken]
-REST = [*EVENTS, pdus_lengths, pdus_limits, pdus_written, pdus_read, sequences_runs, sequences_any, nonsense]
+PDUS = [pdus_metadata, pdus_metadata_checks, pdus_lengths, pdus_limits, pdus_written, pdus_read]
+SEQUENCES = [sequences_runs, sequences_any]
+REST = [*EVENTS, *PDUS, *SEQUENCES, nonsense]
 
 # What a removal did (document 02, C-16), and by how many ranges the list grew.
 GREW = {'whole': -1, 'left': 0, 'right': 0, 'split': 1}
@@ -1004,6 +1064,20 @@ SIZED = {f'{answer} {place} {width}' for width in WIDTHS for answer, place in (
 # A record that is sound but for its size.
 UNEQUAL = {f'refused 10 unequal {mark} {width}' for mark in ('known', 'waiting') for width in WIDTHS}
 
+# How the metadata request stands among the requests of a PDU (document 02, C-12), as patterns of the letters of pdus_metadata:
+# what is taken, what is 2 and what is 3.
+TAKEN = {'none': 'g+', 'alone': 'm', 'first': 'mg+', 'middle': 'g+mg+', 'last': 'g+m'}
+EMPTY = {'twice, next': 'g*mm.*', 'twice, apart': 'g*mg+m.*', 'twice, then reversed': 'g*mg*m.*r.*', 'empty before': 'g*e.*m.*',
+         'empty behind': 'g*mg*e.*', 'empty between': 'g*mg*e.*m.*'}
+REVERSED = {'reversed before': 'g*r.*m.*', 'reversed behind': 'g*mg*r.*', 'reversed between': 'g*mg*r.*m.*'}
+ORDERS = {'pdu': TAKEN, 'nak': TAKEN, 'refused 2': EMPTY, 'refused 3': REVERSED}
+
+
+def asked(*answers):
+    """The kinds of these answers by how the metadata request stands, both flags."""
+    return {f'{answer} {how} {flag}' for answer in answers for how in ORDERS[answer] for flag in FLAGS}
+
+
 # What a full run must meet at least once: by command, first words of answers and refusal numbers.
 REACH = {
     'add': {'added', 1, 2, 3, 4, 10},
@@ -1015,8 +1089,8 @@ REACH = {
     'data': SIZED | UNEQUAL | {'noticed', 'kept', 1, 2, 4, 8, 9, 10, 12, 22},
     'metadata': UNEQUAL | {'known', 8, 10, 12, 19},
     'eof': ENDED | UNEQUAL | {'ended', 1, 4, 8, 10, 12, 22},
-    'write': {'pdu', 2, 3, 6, 7, 10, 13, 14, 18},
-    'read': {'nak', 2, 3, 14, 15, 16, 17, 18},
+    'write': asked('pdu', 'refused 2', 'refused 3') | {'pdu', 2, 3, 6, 7, 10, 13, 14, 18},
+    'read': asked('nak', 'refused 2', 'refused 3') | {'nak', 2, 3, 14, 15, 16, 17, 18},
     'nak': UNEQUAL | {'pdu', 'sent', 6, 7, 8, 10, 11, 12, 13, 14, 20},
 }
 RUST_REACH = {
@@ -1106,9 +1180,32 @@ class Shown:
         return None
 
 
+def requests_in(parts):
+    """The flag and the requests of a line that writes or reads a PDU and came as far as its requests, as it has them."""
+    if parts[0] == 'write':
+        flag, numbers = parts[6], [int(word) for word in parts[10:]]
+    else:
+        octets = bytes.fromhex(parts[1])
+        flag, f = FLAGS[octets[0] & 1], 8 if octets[0] & 1 else 4
+        head = 4 + 2 * ((octets[3] >> 4 & 7) + 1) + (octets[3] & 7) + 1
+        numbers = [int.from_bytes(octets[at:at + f], 'big') for at in range(head + 1 + 2 * f, len(octets), f)]
+    return flag, list(zip(numbers[::2], numbers[1::2]))
+
+
+def orders(parts, answer):
+    """The kinds of an answer to such a line by how the metadata request stands, as the tables above name them."""
+    said = ' '.join(answer.split(' ')[:2]) if answer.startswith('refused ') else answer.split(' ')[0]
+    if said in ORDERS:
+        flag, requests = requests_in(parts)
+        word = ''.join('m' if pair == (0, 0) else 'g' if pair[0] < pair[1] else 'e' if pair[0] == pair[1] else 'r' for pair in requests)
+        for how, pattern in ORDERS[said].items():
+            if re.fullmatch(pattern, word):
+                yield f'{said} {how} {flag}'
+
+
 def met(lines, expected):
     """(command, kind) of each answer to these lines; of a removal with the store's width, of an insert, an event or a sequence
-    also how it met the record where the line before showed that."""
+    also how it met the record where the line before showed that, of a PDU how its metadata request stands."""
     width, shown = 'wide', None
     for at, answer in expected:
         parts = lines[at - 1].split() or ['']
@@ -1120,6 +1217,8 @@ def met(lines, expected):
             how = Shown(shown).met(parts[0], [int(word) for word in parts[1:] if word.isdecimal()], answer[0])
             if how:
                 yield parts[0], how
+        if parts[0] in ('write', 'read'):
+            yield from ((parts[0], how) for how in orders(parts, answer[0]))
         shown = answer[0] if parts[0] == 'show' and not answer[0].startswith('error ') else None
 
 

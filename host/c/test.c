@@ -454,9 +454,21 @@ static const struct pusmarke_identity identity = {1, 1, 1, 7, 2};
 static const uint8_t example[32] = {0x28, 0x00, 0x19, 0x00, 0x01, 0x07, 0x02, 0x08, 0x00, 0x00, 0x00, 0x00, 0x00, 0x00, 0x03, 0xe8,
     0x00, 0x00, 0x00, 0x00, 0x00, 0x00, 0x00, 0x00, 0x00, 0x00, 0x00, 0x64, 0x00, 0x00, 0x00, 0xc8};
 
+/* The same with the metadata request last. */
+static const uint8_t metadata_last[32] = {0x28, 0x00, 0x19, 0x00, 0x01, 0x07, 0x02, 0x08, 0x00, 0x00, 0x00, 0x00, 0x00, 0x00, 0x03, 0xe8,
+    0x00, 0x00, 0x00, 0x64, 0x00, 0x00, 0x00, 0xc8, 0x00, 0x00, 0x00, 0x00, 0x00, 0x00, 0x00, 0x00};
+
+/* Metadata, (100, 200), metadata: asked for once too often. */
+static const uint8_t metadata_twice[40] = {0x28, 0x00, 0x21, 0x00, 0x01, 0x07, 0x02, 0x08, 0x00, 0x00, 0x00, 0x00, 0x00, 0x00, 0x03, 0xe8,
+    0x00, 0x00, 0x00, 0x00, 0x00, 0x00, 0x00, 0x00, 0x00, 0x00, 0x00, 0x64, 0x00, 0x00, 0x00, 0xc8};
+
 static void writing(void) {
     const uint64_t requests[4] = {0, 0, 100, 200};
+    const uint64_t last[4] = {100, 200, 0, 0};
     const uint64_t twice[4] = {0, 0, 0, 0};
+    const uint64_t apart[6] = {0, 0, 100, 200, 0, 0};
+    const uint64_t others[6] = {5, 5, 0, 0, 5, 5};
+    const uint64_t in_turn[10] = {0, 0, 200, 100, 0, 0, 0, 0, 200, 100};
     const uint64_t turned[2] = {200, 100};
     const uint64_t huge[2] = {0, 4294967296u};
     struct pusmarke_identity bad = identity;
@@ -476,6 +488,11 @@ static void writing(void) {
     REFUSED(pusmarke_write(identity, 0, 1000, 0, requests, 4, buf, 32), PUSMARKE_SCOPE_REVERSED);
     CARRIES(pusmarke_write(identity, 0, 0, 1000, turned, 2, buf, 32), PUSMARKE_START_LARGER_THAN_END, 200, 100);
     REFUSED(pusmarke_write(identity, 0, 0, 1000, twice, 4, buf, 32), PUSMARKE_EMPTY_SEGMENT);
+    REFUSED(pusmarke_write(identity, 0, 0, 1000, apart, 6, buf, 32), PUSMARKE_EMPTY_SEGMENT);
+    REFUSED(pusmarke_write(identity, 0, 0, 1000, others, 4, buf, 32), PUSMARKE_EMPTY_SEGMENT);
+    REFUSED(pusmarke_write(identity, 0, 0, 1000, others + 2, 4, buf, 32), PUSMARKE_EMPTY_SEGMENT);
+    CARRIES(pusmarke_write(identity, 0, 0, 1000, in_turn, 6, buf, 32), PUSMARKE_START_LARGER_THAN_END, 200, 100);
+    REFUSED(pusmarke_write(identity, 0, 0, 1000, in_turn + 4, 6, buf, 32), PUSMARKE_EMPTY_SEGMENT);
     REFUSED(pusmarke_write(identity, 0, 0, 1000, huge, 2, buf, 32), PUSMARKE_LARGE_SEGMENT_FOR_NORMAL_FILE_SIZE);
     CARRIES(pusmarke_write(identity, 0, 0, 1000, requests, 4, buf, 31), PUSMARKE_BUFFER_SIZE_MISSMATCH, 32, 31);
     CARRIES(pusmarke_write(identity, 0, 0, 1000, NULL, 0, NULL, 0), PUSMARKE_BUFFER_SIZE_MISSMATCH, 16, 0);
@@ -493,6 +510,9 @@ static void writing(void) {
     SAME(kept, buf);
     ACCEPTED(pusmarke_write(identity, 0, 0, 1000, requests, 4, buf, 32), 32, 0, 0);
     SAME(example, buf);
+    /* the metadata request keeps its place */
+    ACCEPTED(pusmarke_write(identity, 0, 0, 1000, last, 4, buf, 32), 32, 0, 0);
+    SAME(metadata_last, buf);
 }
 
 static int nothing_read(struct pusmarke_nak n, uint64_t refusal, uint64_t start, uint64_t end, size_t length) {
@@ -527,6 +547,12 @@ static void reading(void) {
     HOLDS(step_is(pusmarke_next(example, 32, 25), 0, 0, 0, 25));
     HOLDS(step_is(pusmarke_next(example, 32, SIZE_MAX), 0, 0, 0, SIZE_MAX));
     HOLDS(step_is(pusmarke_next(NULL, 0, 0), 0, 0, 0, 0));
+    /* the metadata request last */
+    n = pusmarke_read(metadata_last, sizeof metadata_last);
+    HOLDS(n.refusal == 0 && n.scope_start == 0 && n.scope_end == 1000 && n.from == 16 && n.to == 32 && n.next == 16);
+    HOLDS(step_is(pusmarke_next(metadata_last, 32, 16), 1, 100, 200, 24));
+    HOLDS(step_is(pusmarke_next(metadata_last, 32, 24), 1, 0, 0, 32));
+    HOLDS(step_is(pusmarke_next(metadata_last, 32, 32), 0, 0, 0, 32));
 
     HOLDS(nothing_read(pusmarke_read(NULL, 0), PUSMARKE_LENGTH_MISMATCH, 0, 0, 0));
     HOLDS(nothing_read(pusmarke_read(example, 3), PUSMARKE_LENGTH_MISMATCH, 0, 0, 3));
@@ -538,6 +564,7 @@ static void reading(void) {
     HOLDS(nothing_read(damaged(8, 0x01), PUSMARKE_SCOPE_REVERSED, 0, 0, 32));
     HOLDS(nothing_read(damaged(19, 0x01), PUSMARKE_START_LARGER_THAN_END, 1, 0, 32));
     HOLDS(nothing_read(damaged(31, 0x64), PUSMARKE_EMPTY_SEGMENT, 0, 0, 32));
+    HOLDS(nothing_read(pusmarke_read(metadata_twice, sizeof metadata_twice), PUSMARKE_EMPTY_SEGMENT, 0, 0, 40));
     /* a data field of one octet less */
     memcpy(packet, example, sizeof packet);
     packet[2] = 0x18;

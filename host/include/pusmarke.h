@@ -180,12 +180,13 @@ struct pusmarke_answer pusmarke_metadata(struct pusmarke_reception *record, cons
 struct pusmarke_answer pusmarke_eof(struct pusmarke_reception *record, uint64_t *list, size_t list_length, uint64_t size);
 
 /* Refusal 13: an identifier length outside 1 to 8, or a number that does not fit its length. The header has
- * H = 4 + 2 * entity_length + number_length octets. A request (0, 0) asks for metadata, and may stand only first. */
+ * H = 4 + 2 * entity_length + number_length octets. A request (0, 0) asks for metadata; it may stand at
+ * any place, once. */
 
 /* Writes one NAK PDU of this identity, scope and flat list of requests, which may be empty.
  * Accepted: first is the octets written, all of the buffer: H + 1 + 2F and 2F for each request.
  * Refusals: 10 a list of odd length or of more than 4,096 pairs; 13; 18 scope start above scope end; then request by request, 3 start
- * above end or 2 start equals end and not a first (0, 0); 7 normal flag, and a number of the scope or of a request above
+ * above end or 2 start equals end, but for the first (0, 0) among them; 7 normal flag, and a number of the scope or of a request above
  * 4,294,967,295; 14 the PDU above 4,096 octets; 6 the buffer is not exactly as long as the PDU. */
 struct pusmarke_answer pusmarke_write(struct pusmarke_identity identity, uint64_t large, uint64_t scope_start, uint64_t scope_end,
     const uint64_t *requests, size_t requests_length, uint8_t *buffer, size_t buffer_length);

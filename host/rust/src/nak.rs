@@ -21,8 +21,8 @@ impl FileFlag {
     }
 }
 
-/// Writes one NAK PDU into a buffer of exactly its length, and says that length. `requests` is flat, start and end by turns; a first
-/// (0, 0) asks for metadata. Refused: 10, 13, 18, 3, 2, 7, 14 and 6.
+/// Writes one NAK PDU into a buffer of exactly its length, and says that length. `requests` is flat, start and end by turns; (0, 0)
+/// asks for metadata, at any place, once. Refused: 10, 13, 18, 3, 2, 7, 14 and 6.
 pub fn write_nak(
     identity: Identity,
     file_flag: FileFlag,
@@ -45,7 +45,8 @@ pub fn write_nak(
     Ok(answer.accepted()?.first as usize)
 }
 
-/// A NAK PDU that was read, over the caller's octets. Its requests, (start, end), come one by one: it is an iterator.
+/// A NAK PDU that was read, over the caller's octets. Its requests, (start, end), come one by one, as they stand: it is an iterator.
+/// (0, 0) asks for metadata and comes at most once, at any place.
 #[derive(Clone, Debug)]
 pub struct NakReader<'p> {
     packet: &'p [u8],

@@ -20,6 +20,29 @@ fn example_packet() {
 }
 
 #[test]
+fn metadata_last() {
+    // The example with its requests the other way round: each keeps its place.
+    let mut packet = EXAMPLE;
+    packet[16..].rotate_left(8);
+    let mut buf = [0; 32];
+    assert_eq!(write_nak(IDENTITY, FileFlag::Normal, (0, 1000), &[100, 200, 0, 0], &mut buf), Ok(32));
+    assert_eq!(buf, packet);
+    let reader = NakReader::read(&packet).unwrap();
+    assert_eq!((reader.request_octets(), reader.collect::<Vec<_>>()), (&packet[16..], vec![(100, 200), (0, 0)]));
+    // A second one is refused, next to the first and apart, and so is another empty request.
+    let mut buf = [0; 40];
+    for requests in
+        [[0, 0, 0, 0, 100, 200], [0, 0, 100, 200, 0, 0], [100, 200, 0, 0, 0, 0], [5, 5, 0, 0, 100, 200], [100, 200, 0, 0, 5, 5]]
+    {
+        assert_eq!(write_nak(IDENTITY, FileFlag::Normal, (0, 1000), &requests, &mut buf), Err(Refusal::EmptySegment));
+        let mut packet = EXAMPLE[..16].to_vec();
+        packet[2] += 8;
+        packet.extend(requests.iter().flat_map(|n| (*n as u32).to_be_bytes()));
+        assert_eq!(NakReader::read(&packet).unwrap_err(), Refusal::EmptySegment);
+    }
+}
+
+#[test]
 fn damaged_packets() {
     let with = |at: usize, octet: u8| {
         let mut packet = EXAMPLE;
