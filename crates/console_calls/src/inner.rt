@@ -3,4 +3,4 @@ pub mod pdus; // pdus.rt: write, read, nak
 pub mod receiving; // receiving.rt: data, metadata
 pub mod refusals; // refusals.rt: a refusal as a line
 pub mod state; // state.rt: what the console holds from line to line
-pub mod store; // store.rt: the store's five calls
+pub mod store; // store.rt: the store's six calls

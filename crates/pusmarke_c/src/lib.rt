@@ -2,4 +2,4 @@
 pub mod events; // events.rt: a fresh record, the data event, the metadata event
 pub mod pdu; // pdu.rt: one NAK PDU written and read
 pub mod pdus; // pdus.rt: the NAK sequence
-pub mod store; // store.rt: the store's five calls
+pub mod store; // store.rt: the store's six calls
