@@ -260,7 +260,7 @@ module _ (s : State) (N : ℕ) (P : ℕ → Type 0) (n : ℕ) (h : Holds s N P n
       go (Eof z) false f k g = fits (Eof z) false k s (refused-same s (Eof z) f) f (none-added s n n (omega arith) h)
 
 -- a list of events
-history : (es : List Event) (s : State) (N : ℕ) (P : ℕ → Type 0) (n : ℕ) (known : Bool) → s .rec .missing ≡ not known → Holds s N P n
+pub history : (es : List Event) (s : State) (N : ℕ) (P : ℕ → Type 0) (n : ℕ) (known : Bool) → s .rec .missing ≡ not known → Holds s N P n
     → Holds (run s es) N (λ x. Covers x (keptFrom known s es) ⊎ P x) (acceptedOf s es + n)
 history [] s N P n known g h = none-added s N P n h s n (zero + n) (omega arith) h
 history (e ∷ es) s N P n known g h =

@@ -1,0 +1,8 @@
+// What held answers.
+use outcomes::Refusal;
+
+pub enum HeldAnswer {
+    Yes,
+    No,
+    Refused(Refusal),
+}
