@@ -4,6 +4,7 @@ pub mod inner; // inner.rt: an answer with so many values
 pub mod pdu; // pdu.rt: of writing one NAK PDU
 pub mod pdus; // pdus.rt: of the NAK sequence
 pub mod refusal; // refusal.rt: of a refusal, whatever call gives it
+pub mod report; // report.rt: of held and missing_octets
 pub mod store; // store.rt: of the store's six calls
 
 // What a call answers: 0 or the refusal's number, and its values in order, 0 where there is none.
