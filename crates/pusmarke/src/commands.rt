@@ -1,8 +1,10 @@
 // A line of commands: its name, its words, what it does.
 ghost use Prim.Native.Nat.{_≤_};
 ghost use lib.ListN.{length};
+use console_calls::inner::map;
 use console_calls::inner::pdus;
 use console_calls::inner::receiving;
+use console_calls::inner::reports;
 use console_calls::inner::state;
 use console_calls::inner::state::State;
 use console_calls::inner::store;
@@ -26,6 +28,9 @@ pub enum Command {
     Data,
     Metadata,
     Eof,
+    Held,
+    Missing,
+    Map,
     Write,
     Read,
     Nak,
@@ -83,6 +88,15 @@ fn call_named(word: &[u8]) -> Command {
     }
     if words::same(word, b"eof") {
         return Command::Eof;
+    }
+    if words::same(word, b"held") {
+        return Command::Held;
+    }
+    if words::same(word, b"missing") {
+        return Command::Missing;
+    }
+    if words::same(word, b"map") {
+        return Command::Map;
     }
     if words::same(word, b"write") {
         return Command::Write;
@@ -149,6 +163,9 @@ fn arguments(
         Command::Data => words::take_words(line, from, b"nn", values),
         Command::Metadata => words::take_words(line, from, b"", values),
         Command::Eof => words::take_words(line, from, b"n", values),
+        Command::Held => words::take_words(line, from, b"nn", values),
+        Command::Missing => words::take_words(line, from, b"", values),
+        Command::Map => words::take_words(line, from, b"c", values),
         Command::Write => words::take_words(line, from, b"nnnnnfnnb*", values),
         Command::Read => words::packet(line, from, buf),
         Command::Nak => words::take_words(line, from, b"nnnnnfnnnb", values),
@@ -182,6 +199,9 @@ fn answer(
         Command::Data => receiving::data(s, memory, values[0], values[1], out),
         Command::Metadata => receiving::metadata(s, memory, out),
         Command::Eof => receiving::eof(s, memory, values[0], out),
+        Command::Held => reports::held(s, memory, values[0], values[1], out),
+        Command::Missing => reports::missing(s, memory, out),
+        Command::Map => map::map(s, memory, values[0], out),
         Command::Write => pdus::write(s, values, values, n, buf, out),
         Command::Read => pdus::read(s, buf, n, out),
         Command::Nak => pdus::sequence(s, memory, values, buf, out),

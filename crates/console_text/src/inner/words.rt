@@ -115,6 +115,17 @@ fn number_to(word: &[u8], most: u64) -> Value {
     value
 }
 
+// A number from 1 to `most`.
+fn number_from_one(word: &[u8], most: u64) -> Value {
+    let value = number_to(word, most);
+    if let Value::Number(n) = value {
+        if n == 0 {
+            return Value::Wrong;
+        }
+    }
+    value
+}
+
 // One of two marks: 0 for the first, 1 for the second.
 fn mark(word: &[u8], first: &[u8], second: &[u8]) -> Value {
     if same(word, first) {
@@ -126,13 +137,14 @@ fn mark(word: &[u8], first: &[u8], second: &[u8]) -> Value {
     Value::Wrong
 }
 
-// What a word says where this kind is due: `r` ranges, `l` a length of the memory, `b` one of the buffer, `w` a width, `k` whether
+// What a word says where this kind is due: `r` ranges, `l` a length of the memory, `b` one of the buffer, `c` cells of a picture, `w` a width, `k` whether
 // metadata is known, `f` the large file flag, `o` the word `open`, `p` the word `pairs`, `.` nothing; any other kind is a number.
 fn read_word(word: &[u8], kind: u8) -> Value {
     match kind {
         b'r' => number_to(word, 4096),
         b'l' => number_to(word, 8200),
         b'b' => number_to(word, 66000),
+        b'c' => number_from_one(word, 200),
         b'w' => mark(word, b"wide", b"narrow"),
         b'k' => mark(word, b"known", b"missing"),
         b'f' => mark(word, b"normal", b"large"),
