@@ -702,7 +702,7 @@ def held_records():
         for pairs, front in itertools.product(lists, (90, 95, 99)):
             pairs, progress = [(base + s, base + e) for s, e in pairs], base + front
             yield from ((width, pairs, progress, 'known', size) for size in ('open', progress))
-        for progress in {0, base, base + 60, base + 99}:
+        for progress in sorted({0, base, base + 60, base + 99}):
             yield from ((width, [(0, progress)] if progress else [], progress, 'missing', size) for size in ('open', progress))
 
 
