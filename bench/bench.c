@@ -34,6 +34,8 @@ struct pusmarke_answer pusmarke_write_segments_to_bytes(
     const uint64_t *, size_t, size_t, uint64_t, uint64_t, uint8_t *, size_t);
 struct pusmarke_answer pusmarke_data(struct pusmarke_reception *, uint64_t *, size_t, uint64_t, uint64_t);
 struct pusmarke_answer pusmarke_eof(struct pusmarke_reception *, uint64_t *, size_t, uint64_t);
+struct pusmarke_answer pusmarke_held(struct pusmarke_reception, const uint64_t *, size_t, uint64_t, uint64_t);
+struct pusmarke_answer pusmarke_missing_octets(struct pusmarke_reception, const uint64_t *, size_t);
 struct pusmarke_answer pusmarke_nak_sequence(
     struct pusmarke_reception, const uint64_t *, size_t, struct pusmarke_identity, uint64_t, size_t, size_t,
     size_t, uint8_t *, size_t);
@@ -344,6 +346,27 @@ static void eof_at(size_t n, uint64_t progress)
 static void eof_apart(size_t n) { eof_at(n - 1, progress_of(n - 1)); }
 static void eof_joins(size_t n) { eof_at(n - 1, end_of(n - 2)); }
 
+// What was kept, and the octets missing, when n ranges are missing. The Rust has no such calls.
+static void held(size_t n, uint64_t s, uint64_t e, uint64_t yes)
+{
+    struct pusmarke_reception record = { progress_of(n), n, narrow, 0, 0, 0 };
+    ascending(n);
+    COUNT(0, answer = pusmarke_held(record, list, NUMBERS, s, e));
+    same(answer.refusal == 0 && answer.first == yes, "answer");
+}
+
+static void held_first(size_t n) { held(n, end_of(0), start_of(1), 1); }
+static void held_last(size_t n) { held(n, end_of(n - 1), progress_of(n), 1); }
+static void held_no(size_t n) { held(n, end_of(0), progress_of(n), 0); }
+
+static void missing_octets(size_t n)
+{
+    struct pusmarke_reception record = { progress_of(n), n, narrow, 0, 0, 0 };
+    ascending(n);
+    COUNT(0, answer = pusmarke_missing_octets(record, list, NUMBERS));
+    same(answer.refusal == 0 && answer.first == 6 * n, "answer");
+}
+
 static const struct pusmarke_identity identity = { 1, 1, 1, 7, 2 };
 
 // Progress is the last end: there the Rust's last scope is document 01's.
@@ -441,6 +464,10 @@ static const struct {
     { "data that fills a hole", ALL, data_fills },
     { "EOF, the tail apart", ALL, eof_apart },
     { "EOF, the tail joins", ALL, eof_joins },
+    { "held, behind the first range", PORT, held_first },
+    { "held, behind the last range", PORT, held_last },
+    { "held, across the list", PORT, held_no },
+    { "missing_octets", PORT, missing_octets },
     { "NAK sequence", ALL, sequence },
     { "read one PDU", PORT, read_pdu },
 };

@@ -1,8 +1,9 @@
 #!/usr/bin/env python3
-"""A model of the console, written from document 01, document 02's C-12, C-14, C-16 and C-19 and the console's language alone.
+"""A model of the console, written from document 01, document 02's C-12, C-14, C-16, C-19 and C-24 and the console's language alone.
 
     model.py [SCRIPT]      answers the script (or standard input) as the program must
-    model.py --self-test   holds the interval algebra against plain sets of offsets, and a PDU's requests against words of letters
+    model.py --self-test   holds the interval algebra and histories of events against plain sets of offsets, and a PDU's requests
+                           against words of letters
 
 Numbers are Python's, lists are lists of pairs; nothing here follows the Rust or the port.
 """
@@ -350,6 +351,31 @@ class Console:
         self.missing = False
         return 'known'
 
+    def held(self, a, b):
+        """Was every octet of (a, b) kept? None is while the metadata is missing, none past progress, and none in the list."""
+        pairs = self.record()
+        if a == b:
+            raise Refused(2)
+        if a > b:
+            raise Refused(3, a, b)
+        lacking = any(shares(s, e, a, b) for s, e in pairs)
+        return 'yes' if not self.missing and b <= self.progress and not lacking else 'no'
+
+    def missing_octets(self):
+        """How many offsets the list has. A tail that no end of file told of is in no list."""
+        return f'missing {sum(e - s for s, e in self.record())}'
+
+    def picture(self, cells):
+        """A picture of the file up to the size, or to progress where that is not known: what each cell of it has, kept or missing."""
+        pairs = self.record()
+        top = self.progress if self.size is None else self.size
+        n, marks = min(cells, top), ''
+        for i in range(n):
+            low, high = i * top // n, (i + 1) * top // n
+            lacking = sum(min(e, high) - max(s, low) for s, e in pairs if shares(s, e, low, high))
+            marks += '#' if lacking == 0 else '.' if lacking == high - low else '+'
+        return f'map {marks}'
+
     def nak(self, identity, large, largest, cursor, budget, length):
         pairs = self.record()
         check_identity(identity)
@@ -422,7 +448,7 @@ class Console:
         if name == 'slots':
             need(1)
             return ' '.join(['slots', *map(str, self.memory[:number(rest[0], MEMORY)])])
-        if name in ('add', 'insert', 'remove', 'within', 'data'):
+        if name in ('add', 'insert', 'remove', 'within', 'data', 'held'):
             need(2)
             return getattr(self, name)(number(rest[0]), number(rest[1]))
         if name == 'eof':
@@ -431,6 +457,15 @@ class Console:
         if name in ('coalesce', 'metadata'):
             need(0)
             return getattr(self, name)()
+        if name == 'missing':
+            need(0)
+            return self.missing_octets()
+        if name == 'map':
+            need(1)
+            cells = number(rest[0], 200)
+            if cells == 0:
+                raise Malformed
+            return self.picture(cells)
         if name == 'octets':
             need(2)
             return self.octets(choice(rest[0], 'normal', 'large'), number(rest[1], BUFFER))
@@ -562,6 +597,105 @@ def data_of_sets(members, progress, size, missing, capacity, a, b):
     return f'{"noticed" if missing else "kept"} {len(left)} {front}', left, front, size
 
 
+def queried(query, *record):
+    """What the console answers to a query on this record (pairs, progress, size, missing), which stays as it was."""
+    said, *left = after(query, *record, len(record[0]))
+    assert left == list(record[:3]), (query, record)
+    return said
+
+
+def held_of_sets(kept, a, b):
+    """`held` said of the set of the octets that were kept."""
+    if a >= b:
+        return f'refused 3 {a} {b}' if a > b else 'refused 2'
+    return 'yes' if set(range(a, b)) <= kept else 'no'
+
+
+def map_of_sets(kept, top, cells):
+    """`map` said of that set, octet by octet: the octet x lies behind as many bounds between cells as are at most x."""
+    n = min(cells, top)
+    found = [set() for _ in range(n)]
+    for x in range(top):
+        found[sum(i * top < (x + 1) * n for i in range(1, n))].add('#' if x in kept else '.')
+    return 'map ' + ''.join('+' if len(marks) > 1 else min(marks) for marks in found)
+
+
+class History:
+    """A history of events told to the console, and beside it the octets kept, the furthest end or size, and what the console must
+    say of them."""
+
+    def __init__(self, capacity):
+        self.console, self.kept, self.front, self.done = Console(), set(), 0, 0
+        self.console.begin(False, capacity)
+
+    def ask(self, line):
+        self.done += 1
+        return self.console.line(1, line)[-1]
+
+    def data(self, a, b):
+        """Data that comes; with metadata and size known it lowers the missing octets by just the overlap (C-24)."""
+        before, lacking = self.ask('missing'), set(range(self.front)) - self.kept
+        said = self.ask(f'data {a} {b - a}').split(' ')[0]
+        if said == 'kept':
+            self.kept |= set(range(a, b))
+            if self.console.size is not None:
+                left = int(before.split(' ')[1]) - len(lacking & set(range(a, b)))
+                assert self.ask('missing') == f'missing {left}', (a, b)
+        if said != 'refused':
+            self.front = max(self.front, b)
+        return said
+
+    def eof(self, z):
+        if self.ask(f'eof {z}').startswith('ended '):
+            self.front = z
+
+    def check(self):
+        """The three queries against the octets kept; kept and missing together are all octets up to progress (C-24)."""
+        lacking = self.front - len(self.kept)
+        assert self.ask('missing') == f'missing {lacking}', lacking
+        assert lacking == len(set(range(self.front)) - self.kept)
+        for a in range(self.front + 3):
+            for b in range(self.front + 3):
+                assert self.ask(f'held {a} {b}') == held_of_sets(self.kept, a, b), (self.kept, a, b)
+        for cells in range(1, self.front + 3):
+            assert self.ask(f'map {cells}') == map_of_sets(self.kept, self.front, cells), (self.kept, self.front, cells)
+
+    def asked(self):
+        """The ranges that one full sequence asks for."""
+        pdus = self.console.line(1, 'nak 1 1 1 7 2 normal 32 0 16 512')[:-1]
+        requests = [request for pdu in pdus for request in read(bytes.fromhex(pdu.split(' ')[1]))[4]]
+        return [request for request in requests if request != (0, 0)]
+
+
+def history(rng):
+    """A random history, checked after each event; then the data for every request of one full sequence comes, in any order,
+    repeated and cut smaller, and the file is whole (C-24)."""
+    told, most = History(rng.choice((1, 2, 3, 40))), rng.randint(1, 14)
+    for _ in range(rng.randint(1, 14)):
+        kind, (a, b) = rng.random(), sorted((rng.randint(0, most), rng.randint(0, most)))
+        if kind < 0.2:
+            told.ask('metadata')
+        elif kind < 0.3:
+            told.eof(rng.choice((b, most)))
+        else:
+            told.data(a, b)
+        told.check()
+    # Room enough from here on, so that nothing is refused for it.
+    told.console.length = 80
+    told.ask('metadata')
+    told.eof(told.front + rng.randint(0, 3))
+    pieces = []
+    for s, e in told.asked():
+        ends = sorted({s, e, *(rng.randint(s, e) for _ in range(rng.randint(0, 3)))})
+        pieces += list(zip(ends, ends[1:])) + [(s, e)] * rng.randint(0, 1)
+    rng.shuffle(pieces)
+    for a, b in pieces:
+        assert told.data(a, b) == 'kept', (a, b)
+    told.check()
+    assert told.kept == set(range(told.front)) and not told.asked() and told.ask('show').endswith(f' known {told.front}')
+    return told.done
+
+
 def refused_of_letters(word):
     """C-12 said of a word, a letter for each request (good, metadata, another empty one, reversed): the longest beginning that
     has m at most once, and g for the rest, is fine, and the letter behind it is refused."""
@@ -587,6 +721,7 @@ def round_trip(large, requests):
 
 def self_test():
     import itertools
+    import random
     small = [(s, e) for s in range(5) for e in range(5)]
     done = 0
     for n in range(4):
@@ -620,7 +755,19 @@ def self_test():
                     said = after(f'data {a} {b - a}', pairs, *record)
                     assert said == data_of_sets(members, *record, a, b), (pairs, record, a, b)
                     done += 1
+                record, kept = (pairs, progress, size, missing), set(range(progress)) - members
+                for a, b in itertools.product(range(10), repeat=2):
+                    assert queried(f'held {a} {b}', *record) == held_of_sets(kept, a, b), (record, a, b)
+                    done += 1
+                for cells in (*range(1, 10), 200):
+                    assert queried(f'map {cells}', *record) == map_of_sets(kept, progress, cells), (record, cells)
+                    done += 1
+                assert queried('missing', *record) == f'missing {len(members)}', record
+                done += 1
     print(f'self-test: {done} cases agree with sets of offsets')
+    rng = random.Random('histories')
+    done = sum(history(rng) for _ in range(400))
+    print(f'self-test: 400 histories agree with the sets of octets kept, in {done} answers')
     letters, done = {'g': (3, 9), 'm': (0, 0), 'e': (5, 5), 'r': (9, 4)}, 0
     for n, large in itertools.product(range(7), (False, True)):
         for word in map(''.join, itertools.product(letters, repeat=n)):

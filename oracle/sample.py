@@ -96,6 +96,40 @@ EOF_EXAMPLES = [
     'new pairs narrow 2', 'show', 'eof 7', 'show', 'new pairs wide 4096', 'show',
 ]
 
+HELD_EXAMPLES = [
+    '# Document 02, C-24: nothing is kept while the metadata is missing, and nothing is lost by that.',
+    'new wide 4', 'show', 'held 0 1', 'missing', 'map 10', 'data 0 100', 'held 0 100', 'held 0 1', 'held 99 101', 'missing', 'map 10', 'metadata', 'held 0 100',
+    'held 0 1', 'missing', 'map 10',
+    '# Data with holes: kept parts, touching holes and not; a hole, from and into it, and in the middle; at progress and past it.',
+    'data 0 100', 'held 0 100', 'held 0 101', 'missing', 'map 200', 'data 200 100', 'data 120 30', 'show', 'held 0 100', 'held 10 90', 'held 99 101',
+    'held 100 120', 'held 105 106', 'held 120 150', 'held 119 150', 'held 120 151', 'held 119 151', 'held 90 125', 'held 90 210', 'held 200 300',
+    'held 200 301', 'held 250 400', 'held 300 301', 'held 110 110', 'held 300 300', 'held 150 120', 'held 0 0', 'missing', 'map 30', 'map 7', 'map 1',
+    'map 200',
+    '# The end of file: the tail is missing too. Then what is missing comes; the last map has kept octets alone.',
+    'eof 400', 'held 200 300', 'held 200 400', 'held 300 301', 'held 399 400', 'missing', 'map 40', 'data 90 120', 'held 0 300', 'held 0 301', 'missing',
+    'map 7', 'data 399 1', 'held 0 400', 'held 399 400', 'missing', 'map 8', 'data 300 99', 'held 0 400', 'held 0 401', 'held 400 401', 'missing',
+    'map 40', 'map 1', 'show',
+    '# No octet at all; one; 0, 1, 200 and 201 cells.',
+    'new wide 0', 'metadata', 'map 1', 'map 200', 'eof 0', 'held 0 1', 'held 0 0', 'held 1 0', 'missing', 'map 1', 'map 0', 'map 201', 'new wide 1',
+    'metadata', 'eof 1', 'map 1', 'map 2', 'map 200', 'missing', 'data 0 1', 'map 1', 'map 200', 'held 0 1', 'missing',
+    '# The limits: past the narrow one held says no, as past progress anywhere; the octets of a file of 2^64 - 1.',
+    'new narrow 1', 'metadata', 'data 4294967294 1', 'held 4294967294 4294967295', 'held 4294967293 4294967295', 'held 4294967294 4294967296',
+    'held 4294967296 4294967297', 'held 4294967296 4294967296', 'held 4294967297 4294967296', 'missing', 'map 3', 'map 200', 'data 0 2147483647',
+    'held 0 2147483647', 'held 0 2147483648', 'missing', 'map 2', 'map 200', 'new wide 1', 'metadata', 'data 18446744073709551614 1',
+    'held 18446744073709551614 18446744073709551615', 'held 18446744073709551613 18446744073709551615',
+    'held 18446744073709551615 18446744073709551615', 'held 18446744073709551615 18446744073709551614', 'missing', 'map 3', 'map 200',
+    'data 0 9223372036854775807', 'missing', 'map 2', 'map 200', 'new wide 1', 'eof 18446744073709551615', 'held 0 18446744073709551615', 'missing',
+    'map 200', 'metadata', 'missing', 'map 200', 'data 0 18446744073709551615', 'held 0 18446744073709551615', 'missing', 'map 200',
+    '# Records that are none, for each of the three: 10 of each kind, 8, 12; before 2 and 3. The last three are sound.',
+    *(line for width, record in itertools.product(WIDTHS, (
+        (2, [(0, 9)], 1, 9, 'missing', 8), (4, [(1, 2), (5, 6)], 2, 9, 'missing', 'open'), (4, [(1, 2), (5, 6)], 2, 9, 'known', 8),
+        (3, [(1, 2)], 1, 9, 'known', 'open'), (2, [(1, 2)], 2, 9, 'known', 'open'), (8194, [(1, 2)], 1, 9, 'known', 'open'), (4, [(1, 2), (5, NARROW + 1)], 2, 2**33, 'known', 'open'),
+        (4, [(1, 2), (5, 6)], 2, NARROW + 1, 'known', 'open'), (4, [(5, 6), (1, 2)], 2, 9, 'known', 'open'), (4, [(1, 2), (2, 6)], 2, 9, 'known', 9),
+        (4, [(5, 6), (1, 12)], 2, 9, 'known', 9), (4, [(1, 2), (5, 12)], 2, 9, 'known', 9), (4, [(1, 2), (5, 10)], 2, 9, 'known', 'open'),
+        (4, [(1, 2), (5, 9)], 2, 9, 'known', 'open'), (2, [(0, 50)], 1, 50, 'missing', 50), (4, [(10, 20), (30, 40)], 2, 50, 'known', 'open')))
+      for line in (words('new', width, 0), *scripts.held_check(record))),
+]
+
 SEQUENCE_EXAMPLES = [
     '# Document 01, traced examples, in its order.',
     'new wide 8', *set_list([(0, 1), (2, 3), (4, 5), (6, 7), (8, 9)], 12, 'known'),
@@ -232,6 +266,23 @@ def reception(rng):
     return out
 
 
+def held(rng):
+    """What was kept, how much is missing, and maps."""
+    out = [*HELD_EXAMPLES, '# Each way in which a range can meet a list and progress, both widths, near 0, 2^32 and 2^64, known and waiting.']
+    for width, pairs, progress, mark, size in rng.sample(list(scripts.held_records()), 60):
+        asked = scripts.meets(pairs, progress)
+        out += [words('new', width, len(pairs)), *set_list(pairs, progress, mark, size), 'show',
+                *(words('held', *of) for of in rng.sample(asked, min(25, len(asked)))), 'missing', 'map 7', 'map 200', 'show']
+    out.append('# Small records with every range and map; the order of the checks; maps with holes at the bounds between cells; histories.')
+    for block in itertools.islice(scripts.blocks(scripts.held_small, 'sample'), 10):
+        out += block
+    for block in itertools.islice(scripts.blocks(scripts.held_checks, 'sample'), 60):
+        out += block
+    for generator, blocks in ((scripts.map_places, 16), (scripts.held_history, 4)):
+        out += short(generator, blocks, 400)
+    return out + next(block for block in scripts.held_wide_lists(rng) if len(block[1].split(' ')) < 300)
+
+
 def sequence(rng):
     out = list(SEQUENCE_EXAMPLES)
     for block in itertools.islice(scripts.blocks(scripts.sequences_any, 'sample'), 8):
@@ -273,6 +324,7 @@ REACHED = {
     'store': {**scripts.RUST_REACH, **{name: scripts.REACH[name] - {8, 10} for name in ('insert', 'remove')}},
     'codec': {name: scripts.REACH[name] for name in ('write', 'read')},
     'reception': {**{name: scripts.REACH[name] for name in ('data', 'metadata', 'eof')}, 'nak': scripts.UNEQUAL},
+    'held': {name: scripts.REACH[name] for name in ('held', 'missing', 'map')},
     'sequence': {'nak': scripts.REACH['nak'] - scripts.UNEQUAL - {8, 10, 12}},
     'console': {**{name: {10} for name in ('add', 'coalesce', 'within', 'octets')}, 'insert': {8, 10}, 'remove': {8, 10},
                 'nak': {8, 10, 12}, 'data': {8, 10, 12}, 'metadata': {8, 10, 12, 19}, 'eof': {8, 10, 12}},
@@ -316,7 +368,7 @@ def make(rust, run):
     """Writes the sample; says of each file whether it is as it was. False if something is amiss."""
     amiss, script = [], []
     # The console as it starts comes first; its last line goes without a newline.
-    for maker in (console, store, codec, reception, sequence):
+    for maker in (console, store, codec, reception, held, sequence):
         name = maker.__name__
         lines = maker(random.Random(f'sample {name}'))
         if maker is store:

@@ -9,6 +9,7 @@ of `nonsense` begins with the console as it starts).
 Those of STORE hold store calls alone, which the Rust can judge; those of REST the others too.
 An exhaustive generator ends; the others go on for ever and are the same for the same seed.
 """
+import functools
 import itertools
 import random
 import re
@@ -683,6 +684,139 @@ def records_edges(rng):
                 yield block + ['metadata', 'show', 'metadata']
 
 
+# Queries: what was kept, how much is missing, a picture of the file.
+
+def meets(pairs, progress):
+    """Ranges that meet such a list in every way: before, between and behind its ranges, touching, inside, over and across them, from
+    one into another, up to progress, one past it and far past it; some that are empty or reversed."""
+    edges = {0, progress, *(x for pair in pairs[:2] + pairs[-1:] for x in pair)}
+    near = sorted({min(TOP, max(0, edge + d)) for edge in edges for d in (-1, 0, 1)})
+    turned = [(b, a) for a, b in zip(near, near[1:])]
+    return [*itertools.combinations(near, 2), *turned, *((x, x) for x in near), (0, TOP), (progress, TOP), (TOP, progress)]
+
+
+def held_records():
+    """(width, pairs, progress, mark, size) of every record of held_places."""
+    lists = [[], [(40, 50)], [(0, 9), (40, 50)], [(20, 30), (40, 50), (60, 90)], [(10 * i + 2, 10 * i + 5) for i in range(9)]]
+    for base, width in ((0, 'wide'), (0, 'narrow'), (NARROW - 99, 'narrow'), (NARROW - 50, 'wide'), (TOP - 99, 'wide')):
+        for pairs, front in itertools.product(lists, (90, 95, 99)):
+            pairs, progress = [(base + s, base + e) for s, e in pairs], base + front
+            yield from ((width, pairs, progress, 'known', size) for size in ('open', progress))
+        for progress in sorted({0, base, base + 60, base + 99}):
+            yield from ((width, [(0, progress)] if progress else [], progress, 'missing', size) for size in ('open', progress))
+
+
+def held_places(rng):
+    """held on lists of none, one, two, three and nine ranges, at the front, in the middle and up to progress, near 0, 2^32 and the
+    width's largest number, the size open and known, both widths, and waiting: every way in which a range can meet the list and
+    progress; missing and a map of each, and the record again: yes, no, 2, 3, missing, map."""
+    for (width, pairs, progress, mark, size), in shuffled(rng, held_records()):
+        yield [words('new', width, len(pairs)), *set_list(pairs, progress, mark, size), 'show',
+               *(words('held', *of) for of in meets(pairs, progress)), 'missing', 'map 7', 'map 200', 'show']
+
+
+def held_small(rng):
+    """held of every pair from 0 to 8, missing, and map of 1 to 8 and 200 cells, on every sound record of the offsets 0 to 4 with a
+    progress to 6, known and waiting, the size open and known, both widths: yes, no, 2, 3, missing, map."""
+    for width, sized, (pairs, progress, mark) in shuffled(rng, WIDTHS, (False, True), sound_records(6)):
+        yield [words('new', width, len(pairs)), *set_list(pairs, progress, mark, progress if sized else 'open'), 'show',
+               *(words('held', a, b) for a, b in itertools.product(range(9), repeat=2)), 'missing',
+               *(words('map', cells) for cells in (*range(1, 9), 200)), 'show']
+
+
+HELD_QUERIES = [*(words('held', *of) for of in ((0, 5), (20, 30), (5, 25), (12, 15), (42, 45), (42, 46), (5, 5), (9, 4), (NARROW, TOP),
+                                                (TOP, TOP), (TOP, NARROW + 1))), 'missing', 'map 7', 'map 200']
+
+
+def held_check(record):
+    """Lines that set such a record (as eof_records has them) and put every query to it."""
+    length, pairs, count, progress, mark, size = record
+    return [*set_list(pairs, progress, mark, size), words('lend', length), words('load', progress, mark, count, size), 'show',
+            *HELD_QUERIES, 'show', 'slots 6']
+
+
+def held_checks(rng):
+    """The order of the checks of held, 10, 8, 12, 2, 3, and those of missing and map, 10, 8, 12: ranges that are fine, past progress,
+    past the narrow limit (no check of theirs), empty and reversed, on the records of eof_checks, both widths: yes, no, missing, map, 2, 3,
+    8, 10, 12."""
+    for width, record in shuffled(rng, WIDTHS, eof_records()):
+        yield [words('new', width, 0), *held_check(record)]
+
+
+def held_history(rng):
+    """Long histories of all three events, the metadata first, late or never, capacities 0 to 40, both widths, from progress 0 or near
+    the width's largest number, and after each the queries: ranges of the data that came, across two of them, past progress."""
+    while True:
+        width = rng.choice(WIDTHS)
+        most = NARROW if width == 'narrow' else TOP
+        step, late = rng.choice((1, 3, 10, 1000)), rng.choice((0, 0, 0, 0, 5, 15, 10**9))
+        base = rng.choice((0, 0, 0, most - 40 * step))
+        block = [words('new', width, rng.choice((0, 1, 2, 3, 8, 8, 40, 40, 40)))]
+        if base:
+            block.append(words('load', base, 'known', 0, 'open'))
+        came = [(base, base + step)]
+        for at in range(40):
+            if at == late and not base:
+                block.append('metadata')
+            if rng.random() < 0.05:
+                block.append(words('eof', base + rng.choice((40, 40, 40, rng.randint(0, 40))) * step))
+            s = base + rng.choice((at, at + 1, rng.randint(0, 39), rng.randint(0, 39))) * step
+            e = min(s + rng.randint(1, 3 * step), most)
+            block += [words('data', s, e - s), 'show']
+            came.append((s, e))
+            for (a, b), (c, d) in (rng.choices(came, k=2), (came[-1], rng.choice(came))):
+                a, b = rng.choice(((a, b), (min(a, c), max(b, d)), (a, min(TOP, b + 1)), (max(0, a - 1), b), (b, d)))
+                block.append(words('held', a, b))
+            block += ['missing', words('map', rng.choice((1, 2, 3, 7, 40, 64, 199, 200)))]
+        yield [*block, 'show']
+
+
+def map_cells(rng, progress, cells):
+    """A coalesced list whose ends lie at and next to the bounds between the cells, and anywhere."""
+    n = min(cells, progress)
+    ends = set()
+    for _ in range(2 * rng.randint(1, 6)):
+        bound = rng.randint(0, n) * progress // n if n else 0
+        ends.add(rng.choice((bound, bound, bound - 1, bound + 1, rng.randint(0, progress))))
+    ends = sorted(end for end in ends if 0 <= end <= progress)
+    if len(ends) % 2:
+        ends.pop(rng.randrange(len(ends)))
+    return list(zip(ends[::2], ends[1::2]))
+
+
+def map_places(rng):
+    """map of files of 0, 1, 2, 199, 200, 201 octets and others, around 2^32, 2^63 and the width's largest number, in 1, 2, 3, 7, 64, 199
+    and 200 cells and in as many as there are octets, on lists whose ends lie at and next to the bounds between cells, with nothing
+    missing and with all of it, the size open and known, and waiting, both widths; 0, 201 and more cells, which are errors."""
+    tops = [0, 1, 2, 3, 7, 10, 199, 200, 201, 400, 1000, 99991, NARROW - 1, NARROW]
+    wide = [NARROW + 1, 2**33 + 5, 2**57 + 7, 2**63 - 1, 2**63, TOP // 200 * 200 - 1, TOP - 200, TOP - 1, TOP]
+    every = [('narrow', top) for top in tops] + [('wide', top) for top in tops + wide]
+    while True:
+        rng.shuffle(every)
+        for width, top in every:
+            block = [words('new', width, 12)]
+            for cells in (1, 2, 3, 7, 64, 199, 200, *({top - 1, top, top + 1} & set(range(1, 201)))):
+                size = rng.choice(('open', top))
+                whole = [(0, top)] if top else []
+                for pairs, mark in ((map_cells(rng, top, cells), 'known'), rng.choice((([], 'known'), (whole, 'known'), (whole, 'missing')))):
+                    block += [*set_list(pairs, top, mark, size), 'show', words('map', cells), 'missing']
+            yield [*block, 'map 0', 'map 201', words('map', rng.choice((202, 255, 256, 257, 456, 2**32, 2**32 + 1, TOP))), 'show']
+
+
+def held_wide_lists(rng):
+    """The queries on lists of 100, 1,000, 4,095 and 4,096 ranges, both widths: kept parts and holes at the front, in the middle and at
+    the end, across one hole and across all, maps of 1, 63 and 200 cells."""
+    for width, n, gap, sized in shuffled(rng, WIDTHS, (100, 1000, 4095, 4096), (0, 5), (False, True)):
+        pairs = [(10 * i + 2, 10 * i + 8) for i in range(n)]
+        progress = pairs[-1][1] + gap
+        block = [words('new', width, n), *set_list(pairs, progress, 'known', progress if sized else 'open'), 'show']
+        for at in (0, 1, n // 2, n - 2, n - 1):
+            s, e = 10 * at + 2, 10 * at + 8
+            block += [words('held', *of) for of in ((s - 2, s), (s - 1, s), (e, e + 2), (e, e + 4), (e, e + 5), (s - 1, e + 1), (s, e), (s - 2, s + 1),
+                                                    (e - 1, e + 2), (e + 1, e + 2), (s - 1, progress), (0, e + 1))]
+        yield [*block, 'missing', 'map 1', 'map 63', 'map 200', 'show']
+
+
 def identity(rng, good=True):
     i, q = rng.randint(1, 8), rng.randint(1, 8)
     numbers = [rng.choice((0, 1, 256**length - 1, rng.randrange(256**length))) for length in (i, q, i)]
@@ -966,7 +1100,7 @@ def nonsense(rng):
     that nothing changed."""
     good = ['new wide 3', 'new pairs wide 3', 'lend 6', 'load 7 known 1 open', 'load 7 known 1 7', 'poke 0 1 2', 'show', 'slots 4',
             'add 1 2', 'insert 1 2', 'remove 1 2', 'coalesce', 'within 1 2', 'octets normal 8', 'data 0 1', 'metadata', 'eof 9',
-            'write 1 1 1 7 2 normal 0 1000 24 100 200', 'read 2800', 'nak 1 1 1 7 2 normal 32 0 1 32']
+            'held 1 2', 'missing', 'map 7', 'write 1 1 1 7 2 normal 0 1000 24 100 200', 'read 2800', 'nak 1 1 1 7 2 normal 32 0 1 32']
     fixed = ['bogus', 'ADD 1 2', 'add', 'add 1', 'add 1 2 3', 'add -1 2', 'add +1 2', 'add 0x1 2', 'add 1. 2',
              'add 18446744073709551615 18446744073709551615', 'add 18446744073709551616 1',
              'add 99999999999999999999 1', 'add 000000000000000000001 2', 'add 00000000000000000001 2',
@@ -981,6 +1115,11 @@ def nonsense(rng):
              'load 1 known 1 18446744073709551616', 'load open known 1 1', 'show', 'load 1 known 0 18446744073709551615', 'show',
              'load 1 missing 0 0', 'show', 'load 4 known 0 open', 'show',
              'eof', 'eof x', 'eof open', 'eof 1 2', 'eof -1', 'Eof 1', 'eofs 1', 'eof 18446744073709551616', '  eof   5  ', 'show',
+             'held', 'held 1', 'held 1 2 3', 'held x 2', 'held 1 -2', 'Held 1 2', 'helds 1 2', 'held 18446744073709551616 1', 'held 1 2',
+             ' held  1  2 ', 'held 00000000000000000001 2', 'missing 1', 'missing x', 'Missing', 'missings', 'missing', '  missing ', 'map',
+             'map x', 'map 1 2', 'map -1', 'map 0', 'map 00000000000000000000', 'map 00000000000000000003', 'map 000000000000000000003', 'map 200',
+             'map 201', 'map 256', 'map 4294967297', 'map 18446744073709551615', 'map 18446744073709551616', 'map open', 'Map 3', 'maps 3',
+             '  map   3  ', 'show',
              'poke', 'poke 8199 1 2',
              'poke 8199 1', 'poke 18446744073709551615 1', 'poke 0 1 x', 'show me', 'slots', 'slots 8201', 'slots x',
              'coalesce now', 'metadata 1', 'within 1', 'octets', 'octets normal', 'octets small 8',
@@ -1029,9 +1168,10 @@ STORE = [store_remove_places, store_insert_places, store_insert_checks, store_in
          store_insert_history, store_insert_full]
 EVENTS = [events_small, eof_places, eof_small, eof_checks, eof_data_small, eof_slots, records_small, records_edges, events_history, eof_history,
           events_wide_lists, eof_wide_lists, records_broken]
+QUERIES = [held_places, held_small, held_checks, map_places, held_history, held_wide_lists]
 PDUS = [pdus_metadata, pdus_metadata_checks, pdus_lengths, pdus_limits, pdus_written, pdus_read]
 SEQUENCES = [sequences_runs, sequences_any]
-REST = [*EVENTS, *PDUS, *SEQUENCES, nonsense]
+REST = [*EVENTS, *QUERIES, *PDUS, *SEQUENCES, nonsense]
 
 # What a removal did (document 02, C-16), and by how many ranges the list grew.
 GREW = {'whole': -1, 'left': 0, 'right': 0, 'split': 1}
@@ -1064,6 +1204,25 @@ SIZED = {f'{answer} {place} {width}' for width in WIDTHS for answer, place in (
 # A record that is sound but for its size.
 UNEQUAL = {f'refused 10 unequal {mark} {width}' for mark in ('known', 'waiting') for width in WIDTHS}
 
+# How a range that is asked for meets a record (C-24's held). Yes: with an empty list, apart from all its ranges, or touching one at the
+# left, at the right or both; below progress or up to it. No: while waiting, noticed or not; past progress by one octet or more, with
+# all else kept or with a hole too; in one hole, from one into another, its first or its last octet missing, or with both ends kept and
+# one hole or several between them.
+KEPT = ('empty below', 'empty at', 'apart below', 'apart at', 'left below', 'left at', 'right below', 'both below')
+LACKING = ('noticed', 'not noticed', 'past by one', 'past', 'past with a hole', 'in a hole', 'from hole to hole', 'first missing',
+           'last missing', 'one hole inside', 'holes inside')
+HELD = {f'{answer} {how} {size} {width}' for answer, hows in (('yes', KEPT), ('no', LACKING)) for how in hows for size in ('open', 'sized')
+        for width in WIDTHS}
+
+# How much is missing: nothing, all up to progress, or some of it; while waiting there is no third.
+MISSING = {f'missing {much} {mark} {width}' for mark, all_ in (('known', ('nothing', 'some', 'all')), ('waiting', ('nothing', 'all')))
+           for much in all_ for width in WIDTHS}
+
+# How the cells asked for meet the octets (fewer, as many, more, no octet at all); cells of one length and of two; products that pass
+# 64 bits, on wide stores alone; and the marks that stand together in a map.
+MAPPED = {f'map {how} {size} {width}' for how in ('fewer', 'as many', 'more', 'nothing', 'even', 'uneven', '#', '.', '+', '#.', '#+', '+.', '#+.')
+          for size in ('open', 'sized') for width in WIDTHS} | {f'map above 64 bits {size} wide' for size in ('open', 'sized')}
+
 # How the metadata request stands among the requests of a PDU (document 02, C-12), as patterns of the letters of pdus_metadata:
 # what is taken, what is 2 and what is 3.
 TAKEN = {'none': 'g+', 'alone': 'm', 'first': 'mg+', 'middle': 'g+mg+', 'last': 'g+m'}
@@ -1089,6 +1248,9 @@ REACH = {
     'data': SIZED | UNEQUAL | {'noticed', 'kept', 1, 2, 4, 8, 9, 10, 12, 22},
     'metadata': UNEQUAL | {'known', 8, 10, 12, 19},
     'eof': ENDED | UNEQUAL | {'ended', 1, 4, 8, 10, 12, 22},
+    'held': HELD | UNEQUAL | {'yes', 'no', 2, 3, 8, 10, 12},
+    'missing': MISSING | UNEQUAL | {'missing', 8, 10, 12},
+    'map': MAPPED | UNEQUAL | {'map', 'error', 8, 10, 12},
     'write': asked('pdu', 'refused 2', 'refused 3') | {'pdu', 2, 3, 6, 7, 10, 13, 14, 18},
     'read': asked('nak', 'refused 2', 'refused 3') | {'nak', 2, 3, 14, 15, 16, 17, 18},
     'nak': UNEQUAL | {'pdu', 'sent', 6, 7, 8, 10, 11, 12, 13, 14, 20},
@@ -1101,6 +1263,10 @@ RUST_REACH = {
     'within': {'yes', 'no'},
     'octets': {'octets', 6, 7},
 }
+
+
+# Commands that change nothing: what was shown before them still stands.
+QUERIED = ('held', 'missing', 'map')
 
 
 def kind(answer):
@@ -1162,6 +1328,39 @@ class Shown:
             return 'empty'
         return 'joins' if self.pairs[-1][1] == self.progress else 'apart'
 
+    def holding(self, a, b):
+        """How a range meets the record, as the tables above name it."""
+        if self.waiting:
+            return 'noticed' if b <= self.progress else 'not noticed'
+        holes = [(s, e) for s, e in self.pairs if s < b and a < e]
+        if b > self.progress:
+            return 'past with a hole' if holes else 'past by one' if b == self.progress + 1 else 'past'
+        if holes:
+            first, last = holes[0][0] <= a, b <= holes[-1][1]
+            if first and last:
+                return 'in a hole' if len(holes) == 1 else 'from hole to hole'
+            return 'first missing' if first else 'last missing' if last else 'one hole inside' if len(holes) == 1 else 'holes inside'
+        left, right = any(e == a for _, e in self.pairs), any(s == b for s, _ in self.pairs)
+        how = 'both' if left and right else 'left' if left else 'right' if right else 'apart' if self.pairs else 'empty'
+        return f'{how} {"at" if b == self.progress else "below"}'
+
+    def queried(self, numbers, answer):
+        """The kinds of an answer to held, missing or map on this record, as the tables above name them."""
+        size = 'open' if self.size is None else 'sized'
+        if answer in ('yes', 'no'):
+            yield f'{answer} {self.holding(*numbers)} {size} {self.width}'
+        elif answer.startswith('missing '):
+            octets = int(answer.split(' ')[1])
+            yield f'missing {"nothing" if not octets else "all" if octets == self.progress else "some"} {self.mark} {self.width}'
+        elif answer.startswith('map '):
+            [cells], marks = numbers, answer[4:]
+            hows = ['nothing' if not self.progress else 'fewer' if cells < self.progress else 'as many' if cells == self.progress else 'more']
+            if marks:
+                hows += ['uneven' if self.progress % len(marks) else 'even', ''.join(mark for mark in '#+.' if mark in marks)]
+            if len(marks) * self.progress > TOP:
+                hows.append('above 64 bits')
+            yield from (f'map {how} {size} {self.width}' for how in hows)
+
     def met(self, name, numbers, answer):
         """The kind of an answer to a command on this record, as the tables above name it; None where they name none."""
         said = 'refused ' + answer.split(' ')[1] if answer.startswith('refused ') else answer.split(' ')[0]
@@ -1178,6 +1377,12 @@ class Shown:
             place = 'below' if end < self.size else 'at' if end == self.size else f'past {self.mark}'
             return f'{said} {place} {self.width}'
         return None
+
+
+@functools.lru_cache(maxsize=1)
+def as_shown(answer):
+    """What was shown, read once for all queries behind it."""
+    return Shown(answer)
 
 
 def requests_in(parts):
@@ -1213,13 +1418,18 @@ def met(lines, expected):
             width = parts[-2]
         for said in answer:
             yield parts[0], f'{kind(said)} {width}' if said.startswith('removed ') else kind(said)
-        if shown and parts[0] in ('insert', 'data', 'eof', 'metadata', 'nak') and not answer[0].startswith('error '):
-            how = Shown(shown).met(parts[0], [int(word) for word in parts[1:] if word.isdecimal()], answer[0])
+        if shown and parts[0] in (*QUERIED, 'insert', 'data', 'eof', 'metadata', 'nak') and not answer[0].startswith('error '):
+            record, numbers = as_shown(shown), [int(word) for word in parts[1:] if word.isdecimal()]
+            how = record.met(parts[0], numbers, answer[0])
             if how:
                 yield parts[0], how
+            yield from ((parts[0], how) for how in record.queried(numbers, answer[0]))
         if parts[0] in ('write', 'read'):
             yield from ((parts[0], how) for how in orders(parts, answer[0]))
-        shown = answer[0] if parts[0] == 'show' and not answer[0].startswith('error ') else None
+        if parts[0] == 'show' and not answer[0].startswith('error '):
+            shown = answer[0]
+        elif parts[0] not in QUERIED:
+            shown = None
 
 
 def as_the_rust(answer):

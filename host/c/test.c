@@ -448,6 +448,146 @@ static void endings(void) {
     HOLDS(sized_is(r, UINT64_MAX, 1, 0, 1, 1, UINT64_MAX) && wait[1] == UINT64_MAX);
 }
 
+/* Both queries refuse this record with this number, whatever range is asked for: a good one, an empty one, a reversed one. */
+static void no_record(int line, struct pusmarke_reception r, const uint64_t *list, size_t length, uint64_t number) {
+    is(line, pusmarke_held(r, list, length, 0, 5), number, 0, 0, 0);
+    is(line, pusmarke_held(r, list, length, 5, 5), number, 0, 0, 0);
+    is(line, pusmarke_held(r, list, length, 5, 0), number, 0, 0, 0);
+    is(line, pusmarke_missing_octets(r, list, length), number, 0, 0, 0);
+}
+
+#define NO_RECORD(r, list, length, number) no_record(__LINE__, (r), (list), (length), (number))
+
+/* What was kept, and how much is missing: while waiting, with holes, with the end of file, until nothing is missing; then each refusal,
+ * with faults behind it that it comes before. Record and list stay as they were. */
+static void queries(void) {
+    /* of a list that has 100-120 and 150-200, and progress 300 */
+    static const struct {
+        uint64_t start, end, yes;
+    } cases[] = {
+        {0, 100, 1}, {0, 1, 1}, {99, 100, 1}, {10, 90, 1}, {120, 150, 1}, {121, 149, 1}, {120, 121, 1}, {200, 300, 1}, {299, 300, 1},
+        {201, 299, 1}, {100, 120, 0}, {100, 101, 0}, {119, 120, 0}, {105, 115, 0}, {99, 101, 0}, {119, 121, 0}, {119, 150, 0}, {120, 151, 0},
+        {90, 125, 0}, {110, 160, 0}, {90, 210, 0}, {0, 300, 0}, {199, 300, 0}, {200, 301, 0}, {299, 301, 0}, {300, 301, 0}, {300, 400, 0},
+        {0, UINT64_MAX, 0}, {NARROW_LIMIT, 4294967296u, 0}, {4294967296u, UINT64_MAX, 0},
+    };
+    uint64_t list[6] = {0};
+    const uint64_t holes[6] = {100, 120, 150, 200, 0, 0};
+    const uint64_t tail[6] = {100, 120, 150, 200, 300, 400};
+    const uint64_t apart[4] = {150, 200, 100, 120};
+    const uint64_t touch[4] = {100, 150, 150, 200};
+    const uint64_t huge[2] = {0, 4294967296u};
+    struct pusmarke_reception r = pusmarke_fresh(0), q;
+    size_t i;
+
+    /* nothing came; then data that is noticed, and that metadata does not make kept */
+    ACCEPTED(pusmarke_held(r, list, 6, 0, 1), 0, 0, 0);
+    ACCEPTED(pusmarke_held(r, NULL, 0, 0, 1), 0, 0, 0);
+    ACCEPTED(pusmarke_missing_octets(r, list, 6), 0, 0, 0);
+    ACCEPTED(pusmarke_missing_octets(r, NULL, 0), 0, 0, 0);
+    ACCEPTED(pusmarke_data(&r, list, 6, 0, 100), 0, 0, 0);
+    for (i = 0; i < 2; i++) {
+        ACCEPTED(pusmarke_held(r, list, 6, 0, 100), 0, 0, 0);
+        ACCEPTED(pusmarke_held(r, list, 6, 99, 100), 0, 0, 0);
+        ACCEPTED(pusmarke_held(r, list, 6, 0, 101), 0, 0, 0);
+        ACCEPTED(pusmarke_missing_octets(r, list, 6), 100, 0, 0);
+        if (i == 0) {
+            r.missing = 6;
+            ACCEPTED(pusmarke_held(r, list, 6, 0, 100), 0, 0, 0);
+            ACCEPTED(pusmarke_missing_octets(r, list, 6), 100, 0, 0);
+            ACCEPTED(pusmarke_metadata(&r, list, 6), 0, 0, 0);
+        }
+    }
+
+    /* kept, with two holes, the size not known; in both widths */
+    ACCEPTED(pusmarke_data(&r, list, 6, 0, 100), 1, 0, 0);
+    ACCEPTED(pusmarke_held(r, list, 6, 0, 100), 1, 0, 0);
+    ACCEPTED(pusmarke_missing_octets(r, list, 6), 0, 0, 0);
+    ACCEPTED(pusmarke_data(&r, list, 6, 200, 100), 1, 0, 0);
+    ACCEPTED(pusmarke_data(&r, list, 6, 120, 30), 1, 0, 0);
+    SAME(holes, list);
+    for (q = r; q.narrow < 2; q.narrow++) {
+        for (i = 0; i < sizeof cases / sizeof cases[0]; i++) {
+            ACCEPTED(pusmarke_held(q, list, 6, cases[i].start, cases[i].end), cases[i].yes, 0, 0);
+        }
+        ACCEPTED(pusmarke_missing_octets(q, list, 6), 70, 0, 0);
+        REFUSED(pusmarke_held(q, list, 6, 110, 110), PUSMARKE_EMPTY_SEGMENT);
+        REFUSED(pusmarke_held(q, list, 6, 0, 0), PUSMARKE_EMPTY_SEGMENT);
+        REFUSED(pusmarke_held(q, list, 6, UINT64_MAX, UINT64_MAX), PUSMARKE_EMPTY_SEGMENT);
+        CARRIES(pusmarke_held(q, list, 6, 150, 120), PUSMARKE_START_LARGER_THAN_END, 150, 120);
+        CARRIES(pusmarke_held(q, list, 6, UINT64_MAX, 0), PUSMARKE_START_LARGER_THAN_END, UINT64_MAX, 0);
+    }
+    HOLDS(record_is(r, 300, 2, 0, 0));
+    SAME(holes, list);
+
+    /* the end of file: the tail is missing too, and data takes away as much as it overlaps */
+    ACCEPTED(pusmarke_eof(&r, list, 6, 400), 0, 0, 0);
+    ACCEPTED(pusmarke_missing_octets(r, list, 6), 170, 0, 0);
+    ACCEPTED(pusmarke_held(r, list, 6, 200, 300), 1, 0, 0);
+    ACCEPTED(pusmarke_held(r, list, 6, 200, 301), 0, 0, 0);
+    q = r;
+    q.sized = 7;
+    ACCEPTED(pusmarke_missing_octets(q, list, 6), 170, 0, 0);
+    ACCEPTED(pusmarke_held(q, list, 6, 120, 150), 1, 0, 0);
+    HOLDS(sized_is(r, 400, 3, 0, 0, 1, 400));
+    SAME(tail, list);
+    ACCEPTED(pusmarke_data(&r, list, 6, 90, 120), 1, 0, 0);
+    ACCEPTED(pusmarke_missing_octets(r, list, 6), 100, 0, 0);
+    ACCEPTED(pusmarke_data(&r, list, 6, 250, 100), 1, 0, 0);
+    ACCEPTED(pusmarke_missing_octets(r, list, 6), 50, 0, 0);
+    ACCEPTED(pusmarke_held(r, list, 6, 0, 350), 1, 0, 0);
+    ACCEPTED(pusmarke_held(r, list, 6, 0, 351), 0, 0, 0);
+    ACCEPTED(pusmarke_data(&r, list, 6, 350, 50), 1, 0, 0);
+    ACCEPTED(pusmarke_missing_octets(r, list, 6), 0, 0, 0);
+    ACCEPTED(pusmarke_held(r, list, 6, 0, 400), 1, 0, 0);
+    ACCEPTED(pusmarke_held(r, list, 6, 0, 401), 0, 0, 0);
+
+    /* the largest file */
+    r = pusmarke_fresh(0);
+    memset(list, 0, sizeof list);
+    ACCEPTED(pusmarke_eof(&r, list, 6, UINT64_MAX), 0, 0, 0);
+    ACCEPTED(pusmarke_missing_octets(r, list, 6), UINT64_MAX, 0, 0);
+    ACCEPTED(pusmarke_metadata(&r, list, 6), 0, 0, 0);
+    ACCEPTED(pusmarke_data(&r, list, 6, UINT64_MAX - 1, 1), 1, 0, 0);
+    ACCEPTED(pusmarke_missing_octets(r, list, 6), UINT64_MAX - 1, 0, 0);
+    ACCEPTED(pusmarke_held(r, list, 6, UINT64_MAX - 1, UINT64_MAX), 1, 0, 0);
+    ACCEPTED(pusmarke_held(r, list, 6, UINT64_MAX - 2, UINT64_MAX), 0, 0, 0);
+
+    /* no store or no record: 10 in each way, 8, 12; 10 before 8, 8 before 12 */
+    q = (struct pusmarke_reception){300, 2, 0, 0, 0, 77};
+    ACCEPTED(pusmarke_missing_octets(q, holes, 4), 70, 0, 0);
+    NO_RECORD(q, holes, 5, PUSMARKE_BAD_STORE);
+    NO_RECORD(q, holes, 2, PUSMARKE_BAD_STORE);
+    NO_RECORD(q, NULL, 0, PUSMARKE_BAD_STORE);
+    NO_RECORD(q, long_list, 2 * PAIRS, PUSMARKE_BAD_STORE);
+    q.count = SIZE_MAX;
+    NO_RECORD(q, holes, 4, PUSMARKE_BAD_STORE);
+    q.count = 2;
+    q.missing = 3;
+    NO_RECORD(q, holes, 4, PUSMARKE_BAD_STORE);
+    NO_RECORD(q, apart, 4, PUSMARKE_BAD_STORE);
+    q.missing = 0;
+    q.sized = 1;
+    NO_RECORD(q, holes, 4, PUSMARKE_BAD_STORE);
+    NO_RECORD(q, apart, 4, PUSMARKE_BAD_STORE);
+    q.size = 300;
+    ACCEPTED(pusmarke_missing_octets(q, holes, 4), 70, 0, 0);
+    NO_RECORD(q, apart, 4, PUSMARKE_NOT_COALESCED);
+    NO_RECORD(q, touch, 4, PUSMARKE_NOT_COALESCED);
+    q.progress = q.size = 199;
+    NO_RECORD(q, apart, 4, PUSMARKE_NOT_COALESCED);
+    NO_RECORD(q, holes, 4, PUSMARKE_SCOPE_BELOW_LIST);
+    q.size = 200;
+    NO_RECORD(q, holes, 4, PUSMARKE_BAD_STORE);
+    q = (struct pusmarke_reception){4294967296u, 1, 0, 0, 0, 0};
+    ACCEPTED(pusmarke_missing_octets(q, huge, 2), 4294967296u, 0, 0);
+    q.narrow = 5;
+    NO_RECORD(q, huge, 2, PUSMARKE_BAD_STORE);
+    NO_RECORD(q, holes, 2, PUSMARKE_BAD_STORE);
+    q.progress = NARROW_LIMIT;
+    ACCEPTED(pusmarke_held(q, holes, 2, 120, NARROW_LIMIT), 1, 0, 0);
+    ACCEPTED(pusmarke_held(q, holes, 2, 120, 4294967296u), 0, 0, 0);
+}
+
 static const struct pusmarke_identity identity = {1, 1, 1, 7, 2};
 
 /* Document 01's example packet. */
@@ -703,6 +843,7 @@ int main(void) {
     insertions();
     events();
     endings();
+    queries();
     writing();
     reading();
     sequence();

@@ -179,6 +179,18 @@ struct pusmarke_answer pusmarke_metadata(struct pusmarke_reception *record, cons
  * list would have more pairs than the capacity. */
 struct pusmarke_answer pusmarke_eof(struct pusmarke_reception *record, uint64_t *list, size_t list_length, uint64_t size);
 
+/* Whether every octet from `start` up to, not including, `end` was kept. It was exactly if metadata is known, end is at most progress
+ * and no counted pair has an offset of (start, end). Nothing changes.
+ * Accepted: first is 1 for yes and 0 for no. What lies past progress was not kept, whatever the width.
+ * Refusals: those of a record; 2 start equals end; 3 start above end. */
+struct pusmarke_answer pusmarke_held(struct pusmarke_reception record, const uint64_t *list, size_t list_length, uint64_t start,
+    uint64_t end);
+
+/* How many octets are missing: the offsets of the counted pairs. Before the end of file that is of the octets below progress; a tail
+ * that nothing has told of is not counted. Nothing changes.
+ * Accepted: first is the number, at most progress. Refusals: those of a record. */
+struct pusmarke_answer pusmarke_missing_octets(struct pusmarke_reception record, const uint64_t *list, size_t list_length);
+
 /* Refusal 13: an identifier length outside 1 to 8, or a number that does not fit its length. The header has
  * H = 4 + 2 * entity_length + number_length octets. A request (0, 0) asks for metadata; it may stand at
  * any place, once. */

@@ -32,9 +32,11 @@ fn main() -> Result<(), Refusal> {
     println!("with metadata, missing below {}: {:?}", reception.progress(), reception.segments().collect::<Vec<_>>());
     reception.eof(500)?;
     println!("with the end of file at {:?}: {:?}", reception.size(), reception.segments().collect::<Vec<_>>());
+    println!("50 to 150 kept: {}; missing: {} octets", reception.held(50, 150)?, reception.missing_octets()?);
     for (start, end) in ask(&reception)? {
         reception.data(start, end - start)?;
     }
     println!("after what was asked for came: {:?}", reception.segments().collect::<Vec<_>>());
+    println!("0 to 500 kept: {}; missing: {} octets", reception.held(0, 500)?, reception.missing_octets()?);
     Ok(())
 }

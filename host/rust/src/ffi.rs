@@ -87,6 +87,8 @@ extern "C" {
     pub(crate) fn pusmarke_data(record: *mut Record, list: *mut u64, list_length: usize, offset: u64, length: u64) -> Answer;
     pub(crate) fn pusmarke_metadata(record: *mut Record, list: *const u64, list_length: usize) -> Answer;
     pub(crate) fn pusmarke_eof(record: *mut Record, list: *mut u64, list_length: usize, size: u64) -> Answer;
+    pub(crate) fn pusmarke_held(record: Record, list: *const u64, list_length: usize, start: u64, end: u64) -> Answer;
+    pub(crate) fn pusmarke_missing_octets(record: Record, list: *const u64, list_length: usize) -> Answer;
     pub(crate) fn pusmarke_write(
         identity: Identity,
         large: u64,

@@ -1,8 +1,9 @@
 //! Safe wrappers around Pusmarke, the proved core of a CFDP receiver (CCSDS 727.0-B-5).
 //!
 //! [`Store`] is the store of lost segments over a list that the caller lends, with the methods of cfdp-rs's `LostSegmentStore`.
-//! [`Reception`] keeps such a list by what comes. [`NakSequence`] writes the NAK PDUs that ask for what is missing, [`write_nak`]
-//! writes one, and [`NakReader`] reads one. What does not fit is refused: [`Refusal`] says why, and nothing lent changes.
+//! [`Reception`] keeps such a list by what comes, and says whether a range was kept. [`NakSequence`] writes the NAK PDUs that ask for
+//! what is missing, [`write_nak`] writes one, and [`NakReader`] reads one. What does not fit is refused: [`Refusal`] says why, and
+//! nothing lent changes.
 //!
 //! The crate allocates nothing, has no dependency and does not panic. The work is done by `libpusmarke_c.a`, whose functions are
 //! proved; the wrappers here are not.

@@ -72,6 +72,54 @@ impl<'a> Reception<'a> {
         Segments::of(self.list, self.record.count)
     }
 
+    /// Whether every octet from `start` up to, not including, `end` was kept. While metadata is missing nothing was, and nothing past
+    /// progress was. Refused: 2 and 3.
+    ///
+    /// ```
+    /// # use pusmarke::{Reception, Refusal, Width};
+    /// # fn main() -> Result<(), Refusal> {
+    /// let mut list = [0; 16];
+    /// let mut reception = Reception::new(&mut list, Width::Wide)?;
+    /// reception.data(0, 100)?; // noticed: metadata is missing
+    /// assert!(!reception.held(0, 100)?);
+    /// reception.metadata()?;
+    /// reception.data(0, 100)?;
+    /// reception.data(150, 50)?;
+    /// // Both ends of 50–200 were kept, and 100–150 was not.
+    /// assert!(reception.held(50, 100)? && reception.held(150, 200)?);
+    /// assert!(!reception.held(50, 200)?);
+    /// reception.data(100, 50)?;
+    /// assert!(reception.held(0, 200)? && !reception.held(0, 201)?);
+    /// assert_eq!(reception.held(7, 5), Err(Refusal::StartLargerThanEnd(7, 5)));
+    /// # Ok(())
+    /// # }
+    /// ```
+    pub fn held(&self, start: u64, end: u64) -> Result<bool, Refusal> {
+        let answer = unsafe { ffi::pusmarke_held(self.record, self.list.as_ptr(), self.list.len(), start, end) };
+        Ok(answer.accepted()?.first == 1)
+    }
+
+    /// How many octets are missing: those of [`Reception::segments`], all below progress. Before the end of file a lost tail is not
+    /// among them. A reception refuses it never.
+    ///
+    /// ```
+    /// # use pusmarke::{Reception, Refusal, Width};
+    /// # fn main() -> Result<(), Refusal> {
+    /// let mut list = [0; 16];
+    /// let mut reception = Reception::new(&mut list, Width::Wide)?;
+    /// reception.metadata()?;
+    /// reception.data(20, 80)?;
+    /// assert_eq!(reception.missing_octets(), Ok(20));
+    /// reception.eof(400)?;
+    /// assert_eq!(reception.missing_octets(), Ok(320));
+    /// # Ok(())
+    /// # }
+    /// ```
+    pub fn missing_octets(&self) -> Result<u64, Refusal> {
+        let answer = unsafe { ffi::pusmarke_missing_octets(self.record, self.list.as_ptr(), self.list.len()) };
+        Ok(answer.accepted()?.first)
+    }
+
     /// The NAK PDUs, of at most `largest` octets each, that ask for all that is missing.
     pub fn nak_sequence(&self, identity: Identity, file_flag: FileFlag, largest: usize) -> NakSequence<'_> {
         NakSequence::of(self.record, self.list, identity, file_flag, largest)

@@ -110,6 +110,98 @@ fn end_of_file_before_metadata() {
 }
 
 #[test]
+fn held_before_metadata() {
+    let mut list = [0; 4];
+    let mut reception = Reception::new(&mut list, Width::Wide).unwrap();
+    assert_eq!((reception.held(0, 1), reception.missing_octets()), (Ok(false), Ok(0)));
+    // Noticed is not kept: not while metadata is missing, and not because it came afterwards.
+    assert_eq!(reception.data(0, 100), Ok(Data::Noticed));
+    assert_eq!((reception.held(0, 100), reception.held(99, 100), reception.missing_octets()), (Ok(false), Ok(false), Ok(100)));
+    reception.metadata().unwrap();
+    assert_eq!((reception.held(0, 100), reception.held(99, 100), reception.missing_octets()), (Ok(false), Ok(false), Ok(100)));
+    assert_eq!(reception.data(0, 100), Ok(Data::Kept));
+    assert_eq!((reception.held(0, 100), reception.held(0, 101), reception.missing_octets()), (Ok(true), Ok(false), Ok(0)));
+}
+
+#[test]
+fn held_with_holes() {
+    let mut list = [0; 16];
+    let mut reception = Reception::new(&mut list, Width::Narrow).unwrap();
+    reception.metadata().unwrap();
+    for (offset, length) in [(0, 100), (200, 100), (120, 30)] {
+        reception.data(offset, length).unwrap();
+    }
+    // Missing: 100–120 and 150–200. The tail is told later.
+    let yes = [(0, 100), (0, 1), (99, 100), (10, 90), (120, 150), (121, 149), (200, 300), (201, 299), (299, 300)];
+    let in_holes = [(100, 120), (105, 106), (150, 200), (110, 160)];
+    let with_holes = [(99, 101), (119, 121), (120, 151), (119, 150), (90, 125), (120, 200), (90, 210), (0, 300)];
+    let past_progress = [(200, 301), (299, 301), (300, 301), (300, 400), (1 << 32, 1 << 33), (0, u64::MAX)];
+    let before: Vec<_> = reception.segments().collect();
+    for (start, end) in yes {
+        assert_eq!(reception.held(start, end), Ok(true), "{start}–{end}");
+    }
+    for (start, end) in in_holes.into_iter().chain(with_holes).chain(past_progress) {
+        assert_eq!(reception.held(start, end), Ok(false), "{start}–{end}");
+    }
+    for at in [0, 110, 300, u64::MAX] {
+        assert_eq!(reception.held(at, at), Err(Refusal::EmptySegment));
+    }
+    for (start, end) in [(1, 0), (150, 120), (u64::MAX, 0)] {
+        assert_eq!(reception.held(start, end), Err(Refusal::StartLargerThanEnd(start, end)));
+    }
+    assert_eq!(reception.missing_octets(), Ok(70));
+    assert_eq!((reception.segments().collect::<Vec<_>>(), reception.progress(), reception.size()), (before, 300, None));
+    // The tail counts once it is told.
+    reception.eof(400).unwrap();
+    assert_eq!((reception.missing_octets(), reception.held(200, 300), reception.held(200, 400)), (Ok(170), Ok(true), Ok(false)));
+    // Data lowers what is missing by just the overlap: of 90–210 the 70 octets of two holes, of 250–350 50 octets.
+    for (offset, length, missing) in [(90, 120, 100), (250, 100, 50), (0, 400, 0), (0, 400, 0)] {
+        reception.data(offset, length).unwrap();
+        assert_eq!(reception.missing_octets(), Ok(missing));
+    }
+    assert_eq!((reception.held(0, 400), reception.held(0, 401)), (Ok(true), Ok(false)));
+}
+
+#[test]
+fn three_passes() {
+    // The line of a spectrum lies at 1,850–2,050. After the third pass its two ends were kept and its middle was not.
+    let mut list = [0; 128];
+    let mut reception = Reception::new(&mut list, Width::Wide).unwrap();
+    reception.metadata().unwrap();
+    for (offset, length) in [(0, 700), (900, 850), (2150, 1000), (3300, 500)] {
+        reception.data(offset, length).unwrap();
+    }
+    reception.eof(4000).unwrap();
+    let passes: [(&[(u64, u64)], u64); 3] =
+        [(&[], 950), (&[(700, 200), (2000, 150), (3800, 200)], 400), (&[(1750, 150), (3150, 150)], 100)];
+    for (came, missing) in passes {
+        for &(offset, length) in came {
+            reception.data(offset, length).unwrap();
+        }
+        assert_eq!((reception.held(1850, 2050), reception.missing_octets()), (Ok(false), Ok(missing)));
+    }
+    assert_eq!((reception.held(1850, 1900), reception.held(2000, 2050)), (Ok(true), Ok(true)));
+    reception.data(1900, 100).unwrap();
+    assert_eq!((reception.held(1850, 2050), reception.held(0, 4000), reception.missing_octets()), (Ok(true), Ok(true), Ok(0)));
+}
+
+#[test]
+fn held_at_the_limits() {
+    let mut list = [0; 2];
+    let mut reception = Reception::new(&mut list, Width::Wide).unwrap();
+    reception.eof(u64::MAX).unwrap();
+    assert_eq!((reception.missing_octets(), reception.held(0, u64::MAX)), (Ok(u64::MAX), Ok(false)));
+    reception.metadata().unwrap();
+    reception.data(u64::MAX - 1, 1).unwrap();
+    assert_eq!(reception.missing_octets(), Ok(u64::MAX - 1));
+    assert_eq!((reception.held(u64::MAX - 1, u64::MAX), reception.held(u64::MAX - 2, u64::MAX)), (Ok(true), Ok(false)));
+    // Nothing came at all, and there is no list.
+    let mut none = Reception::new(&mut [], Width::Wide).unwrap();
+    assert_eq!((none.held(0, 1), none.missing_octets()), (Ok(false), Ok(0)));
+    assert_eq!((none.metadata(), none.data(0, 5), none.held(0, 5), none.held(5, 6)), (Ok(()), Ok(Data::Kept), Ok(true), Ok(false)));
+}
+
+#[test]
 fn sequence_refuses() {
     let mut list = [0; 4];
     let reception = Reception::new(&mut list, Width::Wide).unwrap();

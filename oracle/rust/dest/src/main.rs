@@ -235,6 +235,16 @@ fn main() {
         say(key, sequence(&mut h, |h| h.deferred()));
     }
 
+    // What was kept and what is missing: the Rust has neither call. It can be asked whether a range lies inside a lost segment.
+    for (key, list, segment) in [("held-apart", &[(1, 2)][..], (0, 1)), ("held-across", &[(1, 2)], (0, 3)), ("held-past", &[], (0, 1))] {
+        say(key, format!("segment_in_store {}", seeded(list).segment_in_store(segment)));
+    }
+    let mut h = known(4);
+    h.eof(1).unwrap();
+    h.eof(1).unwrap();
+    let octets: u64 = h.lost_segment_tracker.iter().map(|(s, e)| e - s).sum();
+    say("missing-twice", format!("list {}, its octets summed {octets}", pairs(h.lost_segment_tracker.iter())));
+
     // The sequence.
     let multi = |list: &[(u64, u64)], progress: u64, k: usize, missing: bool| {
         let mut h = handler(list, 8, Normal, false, 64);
