@@ -29,6 +29,6 @@ pub extern "C" fn pusmarke_held(
 pub extern "C" fn pusmarke_missing_octets(rec: PusmarkeReception, list: &[u64]) -> PusmarkeAnswer
     ensures { λ r. ⌜ r ≡ answerOf (missingOctetsOutcome (recordIn rec) (now (list .entry))) ⌝ }
 {
-    let own = record_in(rec);
-    of_missing_octets(missing_octets(own, list))
+    let whole = record_in(rec);
+    of_missing_octets(missing_octets(whole, list))
 }
