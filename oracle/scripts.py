@@ -695,6 +695,21 @@ def meets(pairs, progress):
     return [*itertools.combinations(near, 2), *turned, *((x, x) for x in near), (0, TOP), (progress, TOP), (TOP, progress)]
 
 
+def held_kinds(rng):
+    """Each kind of answer to held, missing and map once, the size open, known and not progress, both widths: with nothing, some and all
+    missing, waiting, and no octet at all."""
+    asked = [(0, 3), (17, 20), (15, 18), (15, 20), (2, 5), (10, 12), (0, 20), (16, 21), (16, 30), (13, 21), (6, 8), (7, 13), (9, 11), (11, 13),
+             (4, 11), (4, 16), (5, 5), (9, 4)]
+    records = [([], 'known', 20), ([(5, 10), (12, 15)], 'known', 20), ([(0, 5)], 'known', 20), ([(5, 20)], 'known', 20), ([(0, 20)], 'known', 20),
+               ([(0, 20)], 'missing', 20), ([], 'known', 0), ([], 'missing', 0)]
+    for width, sized in itertools.product(WIDTHS, ('open', 0, 1)):
+        block = [words('new', width, 2)]
+        for pairs, mark, progress in [*records, *([([(9, TOP // 3)], 'known', TOP)] if width == 'wide' else [])]:
+            block += [*set_list(pairs, progress, mark, sized if sized == 'open' else max(0, progress - sized)), 'show',
+                      *(words('held', *of) for of in asked), 'missing', *(words('map', cells) for cells in (1, 2, 3, 4, 20, 21)), 'show']
+        yield block
+
+
 def held_records():
     """(width, pairs, progress, mark, size) of every record of held_places."""
     lists = [[], [(40, 50)], [(0, 9), (40, 50)], [(20, 30), (40, 50), (60, 90)], [(10 * i + 2, 10 * i + 5) for i in range(9)]]
@@ -1168,7 +1183,7 @@ STORE = [store_remove_places, store_insert_places, store_insert_checks, store_in
          store_insert_history, store_insert_full]
 EVENTS = [events_small, eof_places, eof_small, eof_checks, eof_data_small, eof_slots, records_small, records_edges, events_history, eof_history,
           events_wide_lists, eof_wide_lists, records_broken]
-QUERIES = [held_places, held_small, held_checks, map_places, held_history, held_wide_lists]
+QUERIES = [held_kinds, held_places, held_small, held_checks, map_places, held_history, held_wide_lists]
 PDUS = [pdus_metadata, pdus_metadata_checks, pdus_lengths, pdus_limits, pdus_written, pdus_read]
 SEQUENCES = [sequences_runs, sequences_any]
 REST = [*EVENTS, *QUERIES, *PDUS, *SEQUENCES, nonsense]
