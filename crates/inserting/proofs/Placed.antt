@@ -1,15 +1,17 @@
--- What `first_reaching` finds, and what `insert` answers and leaves at each of its ends.
+-- What `first_reaching` and `near_above` find, and what `insert` answers and leaves at each of its ends.
 use mathlib.Core.Path.{_≡_, refl, sym, ap, ap₂, _∙_}
+use mathlib.Core.Bool.{Bool, true, false}
 use mathlib.Core.List.{List, [], _∷_, _++_}
-use Prim.Native.Nat.{ℕ, suc, _+_, _*_, _-_, _≤_, _<_, min, max}
+use Prim.Native.Nat.{ℕ, zero, suc, _+_, _*_, _-_, _≤_, _<_, min, max}
 use native.Mathlib.Omega.{arith}
-use lib.ListN.{length, set, length-append}
+use lib.ListN.{length, drop, set, length-append}
+use lib.Seq.{drop-drop}
 use lib.Dec.{leb·zero}
 use borrow.Author.Tests.{lt-ltb, le-ltb}
-use Rattle.ranges.specs.Range.{Range, range, Above, Coalesced, rangeAt, lastEnd}
+use Rattle.ranges.specs.Range.{Range, range, Above, Coalesced, place, rangeAt, lastEnd}
 use Rattle.ranges.specs.Store.{counted, stored, startAt, endAt}
 use Rattle.ranges.specs.Insert.{insert}
-use Rattle.ranges.specs.Inner.Cut.{first, behind, cutAnswer, cutList}
+use Rattle.ranges.specs.Inner.Cut.{from, first, behind, cutAnswer, cutList}
 use Rattle.ranges.specs.Inner.Moves.{replaced, ofTwo}
 use Rattle.ranges.specs.declared.inner.cut.Remains.{Remains}
 use Rattle.ranges.specs.declared.inner.cut.Remains.the-variants.{Full, Left}
@@ -27,6 +29,24 @@ reaching-zero (r ∷ rs) = rw (leb·zero (r .end))
 
 pub reaching-next : (s : ℕ) (rs : List Range) → 0 < s → first (s - 1) rs ≡ reaching s rs
 reaching-next s rs h = let e : suc (s - 1) ≡ s = omega arith in ap (λ (k : ℕ). reaching k rs) e
+
+-- the place of the first that passes, looked for from a later place that is not behind it
+place-drop : (t : Range → Bool) (d : ℕ) (rs : List Range) → d ≤ place t rs → d + place t (drop d rs) ≡ place t rs
+place-drop t zero rs h = omega arith
+place-drop t (suc d) [] h = absurd (omega arith)
+place-drop t (suc d) (r ∷ rs) h = go (t r) refl (place-drop t d rs)
+  where
+    go : (u : Bool) → t r ≡ u → (d ≤ place t rs → d + place t (drop d rs) ≡ place t rs) → suc d + place t (drop d rs) ≡ place t (r ∷ rs)
+    go true e i = let k = rw e at h in absurd (omega (arith, k))
+    go false e i = let k = rw e at h in let j = i (omega (arith, k)) in rw e (omega (arith, j))
+
+pub behind-later : (i k b : ℕ) (rs : List Range) → i ≤ k → k ≤ behind i b rs → behind k b rs ≡ behind i b rs
+behind-later i k b rs h l =
+    let e : i + (k - i) ≡ k = omega arith in
+    let p = place-drop (from b) (k - i) (drop i rs) (omega arith) in
+    let q : drop (k - i) (drop i rs) ≡ drop k rs = drop-drop (k - i) i rs ∙ ap (λ (m : ℕ). drop m rs) e in
+    let w = rw q at p in
+    omega (arith, w)
 
 -- what `insert` finds: the ranges from place i up to place j are those that (s, e) overlaps or touches
 pub record InsertRun (xs : List ℕ) (n s e room i j : ℕ) : Type 0 where

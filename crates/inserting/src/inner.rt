@@ -1,10 +1,10 @@
 // Inner: a range put into a coalesced list. Each function asks for what its caller has checked.
 ghost use mathlib.Core.Path.{_≡_};
-ghost use Prim.Native.Nat.{_*_, _<_, _≤_, min, max};
+ghost use Prim.Native.Nat.{suc, _*_, _<_, _≤_, min, max};
 ghost use lib.ListN.{length};
 ghost use Rattle.ranges.specs.Range.{range, Coalesced};
 ghost use Rattle.ranges.specs.Store.{counted, mostNumbers};
-ghost use Rattle.ranges.specs.Inner.Cut.{cutAnswer, cutList};
+ghost use Rattle.ranges.specs.Inner.Cut.{behind, cutAnswer, cutList};
 ghost use Rattle.ranges.specs.Insert.{insert};
 ghost use Rattle.inserting.specs.Inner.{reaching};
 use lists::inner::moves::replace;
@@ -42,6 +42,26 @@ fn first_reaching(list: &[u64], n: usize, s: u64) -> usize
     first_past(list, n, s - 1)
 }
 
+// What `first_above` finds. A new range mostly joins two ranges at most, so three are looked at before the rest is halved.
+fn near_above(list: &[u64], n: usize, i: usize, e: u64) -> usize
+    requires { ⌜ (i ≤ n) × (2 * n ≤ length (now list)) ⌝ }
+    requires { ⌜ Coalesced (counted (now list) n) ⌝ }
+    ensures { λ r. ⌜ r ≡ behind i (suc e) (counted (now (list .entry)) n) ⌝ }
+    ensures { λ r. ⌜ (i ≤ r) × (r ≤ n) ⌝ }
+{
+    let mut j = i;
+    while j < n {
+        if e < start_at(list, j) {
+            return j;
+        }
+        if j == i + 2 {
+            return first_above(list, n, j + 1, e);
+        }
+        j += 1;
+    }
+    j
+}
+
 // The range (s, e) is put into the n ranges where it is found to go, and joins those that it overlaps or touches.
 fn insert_between(list: &mut [u64], n: usize, s: u64, e: u64, room: usize) -> Remains
     requires { ⌜ (n ≤ room) × ((2 * room ≤ length (now list)) × ((length (now list) ≤ mostNumbers) × (s < e))) ⌝ }
@@ -50,7 +70,7 @@ fn insert_between(list: &mut [u64], n: usize, s: u64, e: u64, room: usize) -> Re
     ensures { λ _. ⌜ now (list .exit) ≡ cutList room (insert (range s e) (counted (now (list .entry)) n)) n (now (list .entry)) ⌝ }
 {
     let i = first_reaching(list, n, s);
-    let j = first_above(list, n, i, e);
+    let j = near_above(list, n, i, e);
     if i == j {
         if n == room {
             return Remains::Full;
