@@ -2,13 +2,14 @@
 ghost use mathlib.Core.Path.{_≡_};
 ghost use Prim.Native.Nat.{suc, _*_, _<_, _≤_, min, max};
 ghost use lib.ListN.{length};
-ghost use Rattle.ranges.specs.Range.{range, Coalesced};
+ghost use Rattle.ranges.specs.Range.{range, Coalesced, lastEnd};
 ghost use Rattle.ranges.specs.Store.{counted, mostNumbers};
 ghost use Rattle.ranges.specs.Inner.Cut.{behind, cutAnswer, cutList};
 ghost use Rattle.ranges.specs.Insert.{insert};
 ghost use Rattle.inserting.specs.Inner.{reaching};
 use lists::inner::moves::replace;
 use lists::inner::pairs::end_at;
+use lists::inner::pairs::put_end;
 use lists::inner::pairs::put_pair;
 use lists::inner::pairs::start_at;
 use ranges::inner::cut::Remains;
@@ -92,6 +93,27 @@ pub fn insert(list: &mut [u64], n: usize, s: u64, e: u64, room: usize) -> Remain
 {
     if s <= last_end(list, n) {
         return insert_between(list, n, s, e, room);
+    }
+    if n == room {
+        return Remains::Full;
+    }
+    put_pair(list, n, s, e);
+    Remains::Left(n + 1)
+}
+
+// The same where no range ends above s: (s, e) joins the last range if that ends at s, and else goes behind it.
+pub fn insert_behind(list: &mut [u64], n: usize, s: u64, e: u64, room: usize) -> Remains
+    requires { ⌜ (n ≤ room) × ((2 * room ≤ length (now list)) × (s < e)) ⌝ }
+    requires { ⌜ Coalesced (counted (now list) n) × (lastEnd (counted (now list) n) ≤ s) ⌝ }
+    ensures { λ r. ⌜ r ≡ cutAnswer room (insert (range s e) (counted (now (list .entry)) n)) ⌝ }
+    ensures { λ _. ⌜ now (list .exit) ≡ cutList room (insert (range s e) (counted (now (list .entry)) n)) n (now (list .entry)) ⌝ }
+{
+    if 0 < n {
+        let l = n - 1;
+        if end_at(list, l) == s {
+            put_end(list, l, e);
+            return Remains::Left(n);
+        }
     }
     if n == room {
         return Remains::Full;
