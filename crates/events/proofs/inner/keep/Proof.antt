@@ -66,7 +66,8 @@ same-length-3 c = search needs
 returns-4 : tie.Need-returns-4
 returns-4 c = let q = c .before .before .before .before .before .before .before .before .before .before .before .before in
     let a = q .args in
-    rw (kept-within (a .p) (a .a) (a .e) (counted (a .list .now) (a .count)) (omega arith) (q .pre .1 .0) (q .pre .1 .1) (c .before .before .before .before .before .before .before .before .before .before .if1 .left))
+    let within = c .before .before .before .before .before .before .before .before .before .before .if1 .left in
+    rw (kept-within (a .p) (a .a) (a .e) (counted (a .list .now) (a .count)) (omega arith) (q .pre .1 .0) (q .pre .1 .1) within)
     (c .before .before .cut .ensures .0, c .before .before .cut .ensures .1 .1)
 
 pub keep-spec : {M : Type 1} → statement M
