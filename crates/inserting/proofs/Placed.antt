@@ -151,12 +151,3 @@ module _ (xs : List ℕ) (n s e room : ℕ) (counts : n ≤ room) (lies : 2 * ro
         let m : List Range = counted xs p ++ (range (startAt xs p) e ∷ []) in
         let k : length m ≡ n = length-append (counted xs p) (range (startAt xs p) e ∷ []) ∙ ap (λ (j : ℕ). j + 1) (length-counted xs p (omega arith)) ∙ omega arith in
         rw (longer p np lt ends, le-ltb room (length m) (omega (arith, k))) (ap Left (sym k), stored-last xs n p e np (omega arith))
-
-module _ (xs : List ℕ) (n s e room : ℕ) (counts : n ≤ room) (lies : 2 * room ≤ length xs) (whole : Coalesced (counted xs n)) (late : lastEnd (counted xs n) < s) where
-  pub behind-full : n ≡ room → (Full ≡ cutAnswer room (insert (range s e) (counted xs n))) × (xs ≡ cutList room (insert (range s e) (counted xs n)) n xs)
-  behind-full h = more-full xs n s e room counts lies (more-late xs n s e room counts lies whole late) h
-
-  pub behind-put : n < room
-      → (Left (n + 1) ≡ cutAnswer room (insert (range s e) (counted xs n)))
-      × (set (set xs (2 * n) s) (2 * n + 1) e ≡ cutList room (insert (range s e) (counted xs n)) n xs)
-  behind-put h = more-put xs n s e room counts lies (more-late xs n s e room counts lies whole late) h

@@ -83,25 +83,7 @@ fn insert_between(list: &mut [u64], n: usize, s: u64, e: u64, room: usize) -> Re
     Remains::Left(replace(list, n, i, j, 1, low, high, 0, 0))
 }
 
-// The range (s, e) is put into the n ranges and joins those that it overlaps or touches. There is room for so many. Behind all of them
-// it needs no search.
-pub fn insert(list: &mut [u64], n: usize, s: u64, e: u64, room: usize) -> Remains
-    requires { ⌜ (n ≤ room) × ((2 * room ≤ length (now list)) × ((length (now list) ≤ mostNumbers) × (s < e))) ⌝ }
-    requires { ⌜ Coalesced (counted (now list) n) ⌝ }
-    ensures { λ r. ⌜ r ≡ cutAnswer room (insert (range s e) (counted (now (list .entry)) n)) ⌝ }
-    ensures { λ _. ⌜ now (list .exit) ≡ cutList room (insert (range s e) (counted (now (list .entry)) n)) n (now (list .entry)) ⌝ }
-{
-    if s <= last_end(list, n) {
-        return insert_between(list, n, s, e, room);
-    }
-    if n == room {
-        return Remains::Full;
-    }
-    put_pair(list, n, s, e);
-    Remains::Left(n + 1)
-}
-
-// The same where no range ends above s: (s, e) joins the last range if that ends at s, and else goes behind it.
+// The range (s, e) is put behind the n ranges, of which none ends above s: it joins the last one if that ends at s.
 pub fn insert_behind(list: &mut [u64], n: usize, s: u64, e: u64, room: usize) -> Remains
     requires { ⌜ (n ≤ room) × ((2 * room ≤ length (now list)) × (s < e)) ⌝ }
     requires { ⌜ Coalesced (counted (now list) n) × (lastEnd (counted (now list) n) ≤ s) ⌝ }
@@ -120,4 +102,18 @@ pub fn insert_behind(list: &mut [u64], n: usize, s: u64, e: u64, room: usize) ->
     }
     put_pair(list, n, s, e);
     Remains::Left(n + 1)
+}
+
+// The range (s, e) is put into the n ranges and joins those that it overlaps or touches. There is room for so many. Behind the last of
+// them it needs no search.
+pub fn insert(list: &mut [u64], n: usize, s: u64, e: u64, room: usize) -> Remains
+    requires { ⌜ (n ≤ room) × ((2 * room ≤ length (now list)) × ((length (now list) ≤ mostNumbers) × (s < e))) ⌝ }
+    requires { ⌜ Coalesced (counted (now list) n) ⌝ }
+    ensures { λ r. ⌜ r ≡ cutAnswer room (insert (range s e) (counted (now (list .entry)) n)) ⌝ }
+    ensures { λ _. ⌜ now (list .exit) ≡ cutList room (insert (range s e) (counted (now (list .entry)) n)) n (now (list .entry)) ⌝ }
+{
+    if s < last_end(list, n) {
+        return insert_between(list, n, s, e, room);
+    }
+    insert_behind(list, n, s, e, room)
 }
