@@ -1,14 +1,21 @@
 -- Octets that end in their CRC, and damage to a single bit.
 use mathlib.Core.Path.{_≡_}
+use mathlib.Core.Bool.{Bool, _&&_}
 use mathlib.Core.List.{List, _++_}
-use Prim.Native.Nat.{ℕ, _^_, _<_}
-use lib.ListN.{length, getD}
+use Prim.Native.Nat.{ℕ, _-_, _^_, _<_}
+use lib.Dec.{leb, eqb}
+use lib.ListN.{length, getD, take, drop}
 use lib.Bits.{bitXor}
+use Rattle.octets.specs.Octets.{number}
 use Rattle.crc.specs.Crc.{crcOf, trailer}
 
 -- Octets followed by their CRC.
 abbrev pub EndsInCrc : List ℕ → Type 0
 EndsInCrc p = (os : List ℕ) × (p ≡ os ++ trailer (crcOf os))
+
+-- The same as a test: there are two octets at the end, and the number that they hold is the CRC of the octets before them.
+abbrev pub endsInCrc : List ℕ → Bool
+endsInCrc p = leb 2 (length p) && eqb (number (drop (length p - 2) p)) (crcOf (take (length p - 2) p))
 
 -- The octet with its bit k turned over, k from 0 for the lowest to 7.
 abbrev pub turnedOver : ℕ → ℕ → ℕ
