@@ -7,7 +7,7 @@ use mathlib.Core.Logic.{_↔_}
 use Prim.Native.Nat.{ℕ, _+_, _-_, _/_, _%_, _^_, _≤_, _<_}
 use native.Mathlib.Nat.{mod-eq-of-lt}
 use native.Mathlib.Omega.{arith}
-use borrow.Author.Tests.{eq-eqb, eqb-true, le-leb, leb-true}
+use borrow.Author.Tests.{eq-eqb, eqb-true, eqb-false, le-leb, lt-leb, leb-true}
 use lib.Dec.{leb, eqb}
 use lib.ListN.{length, take, drop, length-append, length-drop, take-append-drop}
 use lib.Seq.{take-at, drop-at}
@@ -85,3 +85,18 @@ zero-exactly p a = (to, back)
 
     back : EndsInCrc p → (2 ≤ length p) × (crcOf p ≡ 0)
     back (os, e) = (apart p (os, e) .0, ap crcOf e ∙ checked os)
+
+-- the test of fewer than two octets, and of more
+pub too-few : (p : List ℕ) → length p < 2 → endsInCrc p ≡ false
+too-few p h = rw (lt-leb 2 (length p) h)
+
+pub by-zero : (p : List ℕ) → AllOctets p → 2 ≤ length p → endsInCrc p ≡ eqb (crcOf p) 0
+by-zero p a h = go (eqb (crcOf p) 0) refl
+  where
+    go : (t : Bool) → eqb (crcOf p) 0 ≡ t → endsInCrc p ≡ t
+    go true e = test-exactly p a .1 (zero-exactly p a .0 (h, eqb-true (crcOf p) 0 e))
+    go false e = not-so (endsInCrc p) refl
+      where
+        not-so : (t : Bool) → endsInCrc p ≡ t → endsInCrc p ≡ false
+        not-so true f = absurd (eqb-false (crcOf p) 0 e (zero-exactly p a .1 (test-exactly p a .0 f) .1))
+        not-so false f = f

@@ -1,5 +1,5 @@
 -- One turn of the loop over the octets, and its end.
-use mathlib.Core.Path.{_≡_, refl, sym, ap}
+use mathlib.Core.Path.{_≡_, refl, sym, ap, _∙_}
 use mathlib.Core.List.{List, [], _∷_, _++_}
 use Prim.Native.Nat.{ℕ, suc, _+_, _-_, _≤_, _<_, min}
 use native.Mathlib.Numerals.{add-one}
@@ -18,6 +18,9 @@ divided-append r (x ∷ xs) ys = divided-append _ xs ys
 abbrev pub between : ℕ → ℕ → List ℕ → List ℕ
 between i to os = take (to - i) (drop i os)
 
+pub length-between : (i to : ℕ) (os : List ℕ) → length (between i to os) ≡ min (to - i) (length os - i)
+length-between i to os = rw (length-take (to - i) (drop i os), length-drop i os)
+
 pub turn : (r i to : ℕ) (os : List ℕ) → i < to → i < length os
     → divided (divided r (bitsOf (getD os i 0))) (message (between (i + 1) to os)) ≡ divided r (message (between i to os))
 turn r i to os k h =
@@ -33,4 +36,4 @@ end r i to os h = ap (λ (xs : List ℕ). divided r (message xs)) (empty (betwee
     empty (x ∷ xs) e = absurd (omega arith)
 
     none : length (between i to os) ≡ 0
-    none = rw (length-take (to - i) (drop i os), length-drop i os) (omega arith)
+    none = length-between i to os ∙ omega arith

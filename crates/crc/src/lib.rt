@@ -4,7 +4,9 @@ ghost use Prim.Native.Nat.{_-_, _/_, _^_, _<_, min};
 ghost use lib.ListN.{take, drop};
 ghost use lib.Bits.{bitXor};
 ghost use Rattle.crc.specs.Crc.{message, divided, crcOf};
+ghost use Rattle.crc.specs.Damage.{endsInCrc};
 
+pub mod inner;
 mod table;
 
 fn wide(octet: u8) -> usize
@@ -48,4 +50,19 @@ pub fn crc_of(octets: &[u8], from: usize, to: usize) -> u16
     ensures { λ r. ⌜ r ≡ crcOf (take (to - from) (drop from (now (octets .entry)))) ⌝ }
 {
     go_on(0xffff, octets, from, to)
+}
+
+// Whether the octets in the places `from` up to `to` end in their CRC. Then, and for two octets or more only then, the CRC of them
+// all is 0.
+pub fn ends_in_crc(octets: &[u8], from: usize, to: usize) -> bool
+    ensures { λ r. ⌜ r ≡ endsInCrc (take (to - from) (drop from (now (octets .entry)))) ⌝ }
+{
+    let end = smaller(to, octets.len());
+    if end < from {
+        return false;
+    }
+    if end - from < 2 {
+        return false;
+    }
+    crc_of(octets, from, to) == 0
 }
