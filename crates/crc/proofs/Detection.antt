@@ -3,51 +3,66 @@
 use mathlib.Core.Path.{_≡_, refl, sym, ap, _∙_}
 use mathlib.Core.List.{List, [], _∷_, _++_}
 use mathlib.Core.Bool.{Bool, true, false}
-use Prim.Native.Nat.{ℕ, suc, _*_, _^_, _≤_, _<_}
+use Prim.Native.Nat.{ℕ, suc, _+_, _*_, _/_, _%_, _^_, _≤_, _<_}
 use native.Mathlib.Nat.{pow-le-pow-right, one-le-pow}
 use native.Mathlib.Omega.{arith}
 use borrow.Author.Tests.{eqb-true, eqb-false}
 use lib.Dec.{eqb}
 use lib.ListN.{length, getD, take, drop, set, length-set}
 use lib.Seq.{ext-getD, split-at, set-split, getD-set-same, getD-set-other}
-use lib.Bits.{bitXor, xor-self, xor-zero-l}
-use Rattle.crc.specs.Crc.{preset, places, bitsOf, message, divided, crcOf}
+use lib.Bits.{bitXor, xor-self, xor-lt, xor-zero-l}
+use Rattle.crc.specs.Crc.{preset, message, divided, crcOf}
 use Rattle.crc.specs.Damage.{EndsInCrc, turnedOver, DiffersAt, DiffersInOneBit}
-use Rattle.crc.proofs.Xor.{xor-assoc}
+use Rattle.crc.proofs.Xor.{xor-assoc, xor-same}
 use Rattle.crc.proofs.Binary.{binary-message}
 use Rattle.crc.proofs.Injective.{divided-injective}
-use Rattle.crc.proofs.Linear.{divided-lt, divided-xor}
+use Rattle.crc.proofs.Linear.{divided-lt, octetwise, linear}
 use Rattle.crc.proofs.Quick.{cancels}
-use Rattle.crc.proofs.Turns.{divided-append}
-use Rattle.crc.proofs.Trailer.{in-parts, crc-lt, checked}
+use Rattle.crc.proofs.Trailer.{in-parts, crc-lt, own-octets, checked}
 
--- an octet that leaves the remainder 0 at 0 is 0
-none-but-zero : (z : ℕ) → z < 256 → divided 0 (bitsOf z) ≡ 0 → z ≡ 0
-none-but-zero z h e =
-    let k : 0 ≡ z * 256 = divided-injective (message (z ∷ [])) 0 (z * 256) (binary-message (z ∷ [])) (omega arith) (omega arith) (e ∙ sym (cancels z h)) in
-    omega arith
-
--- two octets that take one remainder to the same one are the same
-same-octet : (r x y : ℕ) → r < 2 ^ 16 → bitXor x y < 256 → divided r (bitsOf x) ≡ divided r (bitsOf y) → bitXor x y ≡ 0
-same-octet r x y hr h e =
-    none-but-zero (bitXor x y) h
-    (ap (λ (s : ℕ). divided s (bitsOf (bitXor x y))) (sym (xor-self r)) ∙ divided-xor places r r x y hr hr
-    ∙ ap (λ (s : ℕ). bitXor s (divided r (bitsOf y))) e ∙ xor-self (divided r (bitsOf y)))
-
--- so octets that are the same but for one octet have the same CRC only if they are the same
-pub one-octet : (xs ys : List ℕ) (x y : ℕ) → bitXor x y < 256 → crcOf (xs ++ x ∷ ys) ≡ crcOf (xs ++ y ∷ ys) → bitXor x y ≡ 0
-one-octet xs ys x y h e = same-octet r x y (crc-lt xs) h same
+-- damage that does not show: as octets of its own, it takes the remainder 0 to 0
+pub unseen : (xs ds es ys : List ℕ) → length ds ≡ length es → crcOf (xs ++ (ds ++ ys)) ≡ crcOf (xs ++ (es ++ ys))
+    → divided 0 (message (octetwise ds es)) ≡ 0
+unseen xs ds es ys l e =
+    ap (λ (s : ℕ). divided s (message (octetwise ds es))) (sym (xor-self r)) ∙ linear ds es r r l (crc-lt xs) (crc-lt xs)
+    ∙ ap (λ (s : ℕ). bitXor s (divided r (message es))) same ∙ xor-self (divided r (message es))
   where
     r : ℕ
     r = crcOf xs
 
-    parts : (o : ℕ) → crcOf (xs ++ o ∷ ys) ≡ divided (divided r (bitsOf o)) (message ys)
-    parts o = in-parts preset xs (o ∷ ys) ∙ divided-append r (bitsOf o) (message ys)
+    parts : (os : List ℕ) → crcOf (xs ++ (os ++ ys)) ≡ divided (divided r (message os)) (message ys)
+    parts os = in-parts preset xs (os ++ ys) ∙ in-parts r os ys
 
-    same : divided r (bitsOf x) ≡ divided r (bitsOf y)
+    same : divided r (message ds) ≡ divided r (message es)
     same =
-        divided-injective (message ys) (divided r (bitsOf x)) (divided r (bitsOf y)) (binary-message ys)
-        (divided-lt (bitsOf x) r (crc-lt xs)) (divided-lt (bitsOf y) r (crc-lt xs)) (sym (parts x) ∙ e ∙ parts y)
+        divided-injective (message ys) (divided r (message ds)) (divided r (message es)) (binary-message ys)
+        (divided-lt (message ds) r (crc-lt xs)) (divided-lt (message es) r (crc-lt xs)) (sym (parts ds) ∙ e ∙ parts es)
+
+-- two octets that take the remainder 0 to 0 are both 0
+none-but-zeros : (y z : ℕ) → y < 256 → z < 256 → divided 0 (message (y ∷ z ∷ [])) ≡ 0 → (y ≡ 0) × (z ≡ 0)
+none-but-zeros y z hy hz e =
+    let w = y * 256 + z in
+    let hw : w < 2 ^ 16 = omega arith in
+    let wy : w / 256 ≡ y = omega arith in
+    let wz : w % 256 ≡ z = omega arith in
+    let own : divided w (message (y ∷ z ∷ [])) ≡ 0 = rw (wy, wz) at (own-octets w hw) in
+    let k : 0 ≡ w = divided-injective (message (y ∷ z ∷ [])) 0 w (binary-message (y ∷ z ∷ [])) (omega arith) hw (e ∙ sym own) in
+    (omega arith, omega arith)
+
+-- so damage within two neighbouring octets always shows
+pub two-octets-seen : (xs ys : List ℕ) (a b c d : ℕ) → a < 256 → b < 256 → c < 256 → d < 256
+    → crcOf (xs ++ (a ∷ b ∷ ys)) ≡ crcOf (xs ++ (c ∷ d ∷ ys)) → (a ≡ c) × (b ≡ d)
+two-octets-seen xs ys a b c d ha hb hc hd e =
+    let z = none-but-zeros (bitXor a c) (bitXor b d) (xor-lt 8 a c ha hc) (xor-lt 8 b d hb hd) (unseen xs (a ∷ b ∷ []) (c ∷ d ∷ []) ys refl e) in
+    (xor-same a c (z .0), xor-same b d (z .1))
+
+-- and so does another octet, of which at most the low eight bits are another
+one-octet : (xs ys : List ℕ) (x y : ℕ) → bitXor x y < 256 → crcOf (xs ++ x ∷ ys) ≡ crcOf (xs ++ y ∷ ys) → bitXor x y ≡ 0
+one-octet xs ys x y h e =
+    let z = bitXor x y in
+    let first : divided 0 (message (z ∷ [])) ≡ 0 = unseen xs (x ∷ []) (y ∷ []) ys refl e in
+    let k : 0 ≡ z * 256 = divided-injective (message (z ∷ [])) 0 (z * 256) (binary-message (z ∷ [])) (omega arith) (omega arith) (first ∙ sym (cancels z h)) in
+    omega arith
 
 -- an octet and the octet with one bit turned over have that bit between them
 one-bit-between : (o k : ℕ) → bitXor o (turnedOver o k) ≡ 2 ^ k
@@ -67,7 +82,13 @@ put-in i k p q h (l, o, others) = ext-getD 0 q (set p i y) (l ∙ sym (length-se
         go true e = rw (eqb-true j i e) (o ∙ sym (getD-set-same p i y 0 h))
         go false e = others j (eqb-false j i e) ∙ sym (getD-set-other p i j y 0 (eqb-false j i e))
 
--- THE THEOREM: octets that differ in exactly one bit have different CRCs
+-- each bit of each octet can be turned over
+pub turned : (p : List ℕ) (i k : ℕ) → i < length p → k < 8 → DiffersInOneBit p (set p i (turnedOver (getD p i 0) k))
+turned p i k h b =
+    let y = turnedOver (getD p i 0) k in
+    (i, k, h, b, (length-set p i y, getD-set-same p i y 0 h, λ j n. getD-set-other p i j y 0 n))
+
+-- octets that differ in exactly one bit have different CRCs
 pub one-bit-seen : (p q : List ℕ) → DiffersInOneBit p q → crcOf p ≡ crcOf q → ⊥
 one-bit-seen p q (i, k, h, b, d) e =
     let x = getD p i 0 in

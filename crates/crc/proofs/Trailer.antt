@@ -24,7 +24,7 @@ pub crc-lt : (os : List ℕ) → crcOf os < 2 ^ 16
 crc-lt os = divided-lt (message os) preset (omega arith)
 
 -- a remainder's own two octets take it to 0
-own-octets : (r : ℕ) → r < 2 ^ 16 → divided r (message (trailer r)) ≡ 0
+pub own-octets : (r : ℕ) → r < 2 ^ 16 → divided r (message (trailer r)) ≡ 0
 own-octets r hr =
     divided-append r (bitsOf (r / 256)) (bitsOf (r % 256))
     ∙ ap (λ (x : ℕ). divided x (bitsOf (r % 256))) (first-half r hr)
