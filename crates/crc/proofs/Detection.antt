@@ -11,14 +11,16 @@ use lib.Dec.{eqb}
 use lib.ListN.{length, getD, take, drop, set, length-set}
 use lib.Seq.{ext-getD, split-at, set-split, getD-set-same, getD-set-other}
 use lib.Bits.{bitXor, xor-self, xor-lt, xor-zero-l}
+use Rattle.octets.specs.Octets.{AllOctets}
 use Rattle.crc.specs.Crc.{preset, message, divided, crcOf}
-use Rattle.crc.specs.Damage.{EndsInCrc, turnedOver, DiffersAt, DiffersInOneBit}
+use Rattle.crc.specs.Damage.{EndsInCrc, endsInCrc, turnedOver, DiffersAt, DiffersInOneBit}
 use Rattle.crc.proofs.Xor.{xor-assoc, xor-same}
 use Rattle.crc.proofs.Binary.{binary-message}
 use Rattle.crc.proofs.Injective.{divided-injective}
 use Rattle.crc.proofs.Linear.{divided-lt, octetwise, linear}
 use Rattle.crc.proofs.Quick.{cancels}
-use Rattle.crc.proofs.Trailer.{in-parts, crc-lt, own-octets, checked}
+use Rattle.crc.proofs.Trailer.{in-parts, crc-lt, own-octets}
+use Rattle.crc.proofs.Ends.{ends-in-zero, test-exactly}
 
 -- damage that does not show: as octets of its own, it takes the remainder 0 to 0
 pub unseen : (xs ds es ys : List ℕ) → length ds ≡ length es → crcOf (xs ++ (ds ++ ys)) ≡ crcOf (xs ++ (es ++ ys))
@@ -102,10 +104,14 @@ one-bit-seen p q (i, k, h, b, d) e =
     let zero : bitXor x (turnedOver x k) ≡ 0 = one-octet xs ys x (turnedOver x k) (rw one (omega arith)) (sym (ap crcOf first) ∙ e ∙ ap crcOf second) in
     omega (arith, sym one ∙ zero, some)
 
--- what ends in its CRC has the CRC 0
-pub ends-in-zero : (p : List ℕ) → EndsInCrc p → crcOf p ≡ 0
-ends-in-zero p (os, e) = ap crcOf e ∙ checked os
-
 -- and its consequence: a packet that ends in its CRC and has one bit turned over, in the trailer too, no longer does
 pub one-bit-refused : (p q : List ℕ) → EndsInCrc p → DiffersInOneBit p q → EndsInCrc q → ⊥
 one-bit-refused p q a d b = one-bit-seen p q d (ends-in-zero p a ∙ sym (ends-in-zero q b))
+
+-- so `ends_in_crc` says no to it
+pub one-bit-no : (p q : List ℕ) → EndsInCrc p → DiffersInOneBit p q → AllOctets q → endsInCrc q ≡ false
+one-bit-no p q a d o = go (endsInCrc q) refl
+  where
+    go : (t : Bool) → endsInCrc q ≡ t → endsInCrc q ≡ false
+    go true e = absurd (one-bit-refused p q a d (test-exactly q o .0 e))
+    go false e = e

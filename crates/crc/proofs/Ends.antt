@@ -1,20 +1,20 @@
--- Octets that end in their CRC: the test says so; they are the octets, two at least, whose CRC is 0; and the trailer is a field of
--- two octets.
+-- Octets that end in their CRC: the test says so; they are the octets whose CRC is 0; and the trailer is a field of two octets.
 use mathlib.Core.Path.{_≡_, refl, sym, ap, ap₂, _∙_}
-use mathlib.Core.Bool.{Bool, true, false, _&&_, true≢false}
+use mathlib.Core.Bool.{Bool, true, false, _&&_, cond, true≢false}
 use mathlib.Core.List.{List, [], _∷_, _++_}
 use mathlib.Core.Logic.{_↔_}
 use Prim.Native.Nat.{ℕ, _+_, _-_, _/_, _%_, _^_, _≤_, _<_}
 use native.Mathlib.Nat.{mod-eq-of-lt}
 use native.Mathlib.Omega.{arith}
-use borrow.Author.Tests.{eq-eqb, eqb-true, eqb-false, le-leb, lt-leb, leb-true}
+use borrow.Author.Tests.{eq-eqb, ne-eqb, eqb-true, le-leb, leb-true}
 use lib.Dec.{leb, eqb}
 use lib.ListN.{length, take, drop, length-append, length-drop, take-append-drop}
 use lib.Seq.{take-at, drop-at}
 use Rattle.octets.specs.Octets.{field, number, AllOctets}
 use Rattle.octets.proofs.Fields.{got-put, put-got, octets-drop}
-use Rattle.crc.specs.Crc.{crcOf, trailer}
+use Rattle.crc.specs.Crc.{shifted, crcOf, trailer}
 use Rattle.crc.specs.Damage.{EndsInCrc, endsInCrc}
+use Rattle.crc.proofs.Tests.{below}
 use Rattle.crc.proofs.Trailer.{crc-lt, checked, checked-only}
 
 -- the trailer is the field of two octets that holds the CRC
@@ -68,9 +68,28 @@ test-exactly p a = (to, back)
         let n : number (last-two p) ≡ crcOf (front p) = ap number (t .1) ∙ trailer-number (crcOf (front p)) (crc-lt (front p)) in
         rw (le-leb 2 (length p) (t .0), eq-eqb (number (last-two p)) (crcOf (front p)) n)
 
--- so do two octets at least and the CRC 0
-pub zero-exactly : (p : List ℕ) → AllOctets p → ((2 ≤ length p) × (crcOf p ≡ 0)) ↔ EndsInCrc p
-zero-exactly p a = (to, back)
+abbrev one-if : Bool → ℕ
+one-if t = cond t 1 0
+
+-- fewer than two octets do not have the CRC 0: of none it is the preset, and the single octets are tried
+one-octet-not : (o : ℕ) → o < 256 → one-if (eqb (crcOf (o ∷ [])) 0) ≡ 0
+unfolding shifted
+one-octet-not o h = below (λ (o : ℕ). one-if (eqb (crcOf (o ∷ [])) 0)) (λ o. 0) 256 tt o h
+
+at-least-two : (p : List ℕ) → AllOctets p → crcOf p ≡ 0 → 2 ≤ length p
+at-least-two [] a z = absurd (omega (arith, z))
+at-least-two (o ∷ []) (h, a) z =
+    let e : _≡_ {A = ℕ} 1 0 = sym (ap one-if (eq-eqb (crcOf (o ∷ [])) 0 z)) ∙ one-octet-not o h in
+    absurd (omega arith)
+at-least-two (o ∷ q ∷ p) a z = omega arith
+
+-- what ends in its CRC has the CRC 0
+pub ends-in-zero : (p : List ℕ) → EndsInCrc p → crcOf p ≡ 0
+ends-in-zero p (os, e) = ap crcOf e ∙ checked os
+
+-- so octets end in their CRC exactly if the CRC of them all is 0
+pub zero-exactly : (p : List ℕ) → AllOctets p → (crcOf p ≡ 0) ↔ EndsInCrc p
+zero-exactly p a = (to, ends-in-zero p)
   where
     two : (os d : List ℕ) → length d ≡ 2 → AllOctets d → crcOf (os ++ d) ≡ 0 → d ≡ trailer (crcOf os)
     two os [] l o z = absurd (omega arith)
@@ -78,25 +97,15 @@ zero-exactly p a = (to, back)
     two os (x ∷ y ∷ []) l (hx, (hy, o)) z = checked-only os x y hx hy z
     two os (x ∷ y ∷ w ∷ d) l o z = absurd (omega arith)
 
-    to : (2 ≤ length p) × (crcOf p ≡ 0) → EndsInCrc p
-    to (h, z) =
+    to : crcOf p ≡ 0 → EndsInCrc p
+    to z =
         together p
-        (two (front p) (last-two p) (length-last p h) (octets-drop (length p - 2) p a) (ap crcOf (take-append-drop (length p - 2) p) ∙ z))
+        (two (front p) (last-two p) (length-last p (at-least-two p a z)) (octets-drop (length p - 2) p a) (ap crcOf (take-append-drop (length p - 2) p) ∙ z))
 
-    back : EndsInCrc p → (2 ≤ length p) × (crcOf p ≡ 0)
-    back (os, e) = (apart p (os, e) .0, ap crcOf e ∙ checked os)
-
--- the test of fewer than two octets, and of more
-pub too-few : (p : List ℕ) → length p < 2 → endsInCrc p ≡ false
-too-few p h = rw (lt-leb 2 (length p) h)
-
-pub by-zero : (p : List ℕ) → AllOctets p → 2 ≤ length p → endsInCrc p ≡ eqb (crcOf p) 0
-by-zero p a h = go (eqb (crcOf p) 0) refl
+-- and the test is that of 0
+pub by-zero : (p : List ℕ) → AllOctets p → eqb (crcOf p) 0 ≡ endsInCrc p
+by-zero p a = go (endsInCrc p) refl
   where
-    go : (t : Bool) → eqb (crcOf p) 0 ≡ t → endsInCrc p ≡ t
-    go true e = test-exactly p a .1 (zero-exactly p a .0 (h, eqb-true (crcOf p) 0 e))
-    go false e = not-so (endsInCrc p) refl
-      where
-        not-so : (t : Bool) → endsInCrc p ≡ t → endsInCrc p ≡ false
-        not-so true f = absurd (eqb-false (crcOf p) 0 e (zero-exactly p a .1 (test-exactly p a .0 f) .1))
-        not-so false f = f
+    go : (t : Bool) → endsInCrc p ≡ t → eqb (crcOf p) 0 ≡ t
+    go true e = eq-eqb (crcOf p) 0 (zero-exactly p a .1 (test-exactly p a .0 e))
+    go false e = ne-eqb (crcOf p) 0 (λ z. true≢false (sym (test-exactly p a .1 (zero-exactly p a .0 z)) ∙ e))

@@ -1,7 +1,7 @@
 -- `crc::go_on` meets its contract. The invariant: the octets that are left take r to what all of them take the first remainder to;
 -- and the table's entries are the remainders of their places, by one test over the table as the loop begins.
 use mathlib.Core.Path.{_≡_, refl, sym, ap, _∙_}
-use Prim.Native.Nat.{ℕ, _+_, _-_, _^_, _≤_, _<_}
+use Prim.Native.Nat.{ℕ, _+_, _-_, _^_, _<_}
 use native.Mathlib.Omega.{arith}
 use lib.ListN.{length, getD}
 use borrow.Author.Needs.{needs}

@@ -1,5 +1,4 @@
 -- `crc::inner::put_trailer` meets its contract: the field of two octets that holds the CRC is the trailer.
-use native.Mathlib.Omega.{arith}
 use Prim.Native.Nat.{ℕ}
 use mathlib.Core.Path.{_≡_, ap, _∙_}
 use mathlib.Core.List.{List}
