@@ -14,10 +14,17 @@ use Rattle.octets.proofs.Fields.{length-field, fields-append}
 use Rattle.octets.proofs.Over.{over-then}
 use Rattle.nak.specs.declared.Form.{Form}
 use Rattle.nak.specs.declared.Identity.{Identity}
-use Rattle.nak.specs.Header.{flagBit, octet0, octet3}
+use Rattle.nak.specs.declared.Edition.{Edition}
+use Rattle.nak.specs.declared.Edition.the-variants.{Older, Newer}
+use Rattle.nak.specs.Header.{fixed0, flagBit, octet0, octet3}
 use Rattle.nak.specs.Pdu.{Nak, nakCode, headerOctets, identityOctets, dataOctets, dataField, pdu}
 use Rattle.nak.specs.Inner.{asked, entries}
 use Rattle.nak.proofs.Parts.{length-header, length-identity, pdu-front, flat-entries}
+
+-- octet 0's parts are small
+pub fixed-low : (e : Edition) → fixed0 e ≤ 40
+fixed-low Older = omega arith
+fixed-low Newer = omega arith
 
 pub flag-low : (g : LargeFileFlag) → flagBit g ≤ 1
 flag-low Normal = omega arith
