@@ -4,4 +4,5 @@ pub mod ParsedOf
 pub mod FieldsBack
 pub mod OctetsBack
 pub mod Stepping
+pub mod Editions
 pub mod RoundTrip
