@@ -9,12 +9,11 @@ use lib.ListN.{length}
 use Rattle.ranges.specs.Range.{Range, range, Covers}
 use Rattle.ranges.specs.Store.{mostPairs}
 use Rattle.ranges.specs.declared.Width.{Width}
-use Rattle.nak.specs.Writer.{isBadIdentity}
 use Rattle.reception.specs.History.{Event, Data, Metadata, Eof, State, fresh, isAccepted, step, run, metadataCame, toldSize, keptBy, keptFrom, rangesOf}
 use Rattle.reception.proofs.Histories.{missing-exact}
 use Rattle.holding.proofs.Histories.{filled}
 use Rattle.sequence.specs.Entries.{Asking, roundedUp}
-use Rattle.sequence.specs.Sequence.{Order, isBadSize, isTooLarge, asked}
+use Rattle.sequence.specs.Sequence.{Order, Allowed, asked}
 use Rattle.sequence.specs.Calls.{Call, AllFit, octetsBy, budgets}
 use Rattle.sequence.specs.Parted.{parted, requestsRead}
 use Rattle.sequence.proofs.Named.{names-missing}
@@ -44,9 +43,7 @@ module _
     (w : Width) (xs : List ℕ) (N : ℕ) (size : length xs ≡ 2 * N) (few : N ≤ mostPairs) (es : List Event)
     (known : metadataCame (fresh w xs) es ≡ true) (z : ℕ) (told : toldSize (fresh w xs) es ≡ z ∷ [])
     (o : Order)
-    (id : isBadIdentity (o .identity) ≡ false)
-    (sz : isBadSize o ≡ false)
-    (lg : isTooLarge (run (fresh w xs) es .rec) (run (fresh w xs) es .list) (o .form) ≡ false)
+    (ok : Allowed (run (fresh w xs) es .rec) (run (fresh w xs) es .list) o)
     (cs : List Call) (fit : AllFit o cs)
     (enough : roundedUp (length (asked (run (fresh w xs) es .rec) (run (fresh w xs) es .list) o .entries))
     (asked (run (fresh w xs) es .rec) (run (fresh w xs) es .list) o .each) ≤ budgets cs)
@@ -59,12 +56,12 @@ module _
     octets = octetsBy (reached .rec) (reached .list) o 0 cs
 
     -- whatever comes, if none of it is refused and its data covers the requests, the list is empty
-    pub closes-covered : (ds : List Event) → ((x : ℕ) → Covers x (requestsRead (parted octets)) → Covers x (dataOf ds)) → NoneRefused reached ds
+    pub closes-covered : (ds : List Event) → ((x : ℕ) → Covers x (requestsRead (o .form .edition) (parted octets)) → Covers x (dataOf ds)) → NoneRefused reached ds
         → rangesOf (run reached ds) ≡ []
     closes-covered ds f a =
         filled w xs N size few es known z told ds
-        (λ x c. all-kept ds reached x a (f x (names-missing w xs N size few es o id sz lg cs fit enough x .1 (missing-exact w xs N size few es x .0 c))))
+        (λ x c. all-kept ds reached x a (f x (names-missing w xs N size few es o ok cs fit enough x .1 (missing-exact w xs N size few es x .0 c))))
 
     -- the data for every request arrives
-    pub closes : (ds : List Event) → Arrives (requestsRead (parted octets)) ds → NoneRefused reached ds → rangesOf (run reached ds) ≡ []
+    pub closes : (ds : List Event) → Arrives (requestsRead (o .form .edition) (parted octets)) ds → NoneRefused reached ds → rangesOf (run reached ds) ≡ []
     closes ds h a = closes-covered ds (h .covered) a
