@@ -700,8 +700,8 @@ def held_kinds(rng):
     missing, waiting, and no octet at all."""
     asked = [(0, 3), (17, 20), (15, 18), (15, 20), (2, 5), (10, 12), (0, 20), (16, 21), (16, 30), (13, 21), (6, 8), (7, 13), (9, 11), (11, 13),
              (4, 11), (4, 16), (5, 5), (9, 4)]
-    records = [([], 'known', 20), ([(5, 10), (12, 15)], 'known', 20), ([(0, 5)], 'known', 20), ([(5, 20)], 'known', 20), ([(0, 20)], 'known', 20),
-               ([(0, 20)], 'missing', 20), ([], 'known', 0), ([], 'missing', 0)]
+    records = [([], 'known', 20), ([(5, 10), (12, 15)], 'known', 20), ([(0, 6), (13, 14)], 'known', 20), ([(0, 5)], 'known', 20),
+               ([(5, 20)], 'known', 20), ([(0, 20)], 'known', 20), ([(0, 20)], 'missing', 20), ([], 'known', 0), ([], 'missing', 0)]
     for width, sized in itertools.product(WIDTHS, ('open', 0, 1)):
         block = [words('new', width, 2)]
         for pairs, mark, progress in [*records, *([([(9, TOP // 3)], 'known', TOP)] if width == 'wide' else [])]:

@@ -6,7 +6,7 @@ ghost use Rattle.outcomes.specs.Checks.{verdictCase, firstOf};
 ghost use Rattle.reception.specs.Data.{dataChecks, dataCase, dataOutcome, dataRecord, dataList};
 use crate::inner::change;
 use crate::inner::past_size;
-use crate::inner::record_checks;
+use crate::inner::record_verdict;
 use inserting::inner::larger;
 use outcomes::Refusal;
 use outcomes::Verdict;
@@ -14,6 +14,7 @@ use ranges::inner::cut::Remains;
 use reception::Reception;
 use reception::data::DataAnswer;
 use reception::data::DataDone;
+use searches::inner::checks::check;
 
 // 2^64 - 1.
 const LARGEST: u64 = 18446744073709551615;
@@ -22,7 +23,10 @@ const LARGEST: u64 = 18446744073709551615;
 pub fn data_checks(rec: Reception, list: &[u64], offset: u64, length: u64) -> Verdict
     ensures { λ r. ⌜ verdictCase r ≡ firstOf (dataChecks rec (now (list .entry)) offset length) (accepted []) ⌝ }
 {
-    let found = record_checks(rec, list);
+    let width = rec.width;
+    let top = width.limit();
+    let read = check(list, rec.count, top);
+    let found = record_verdict(rec, list, top, read);
     if let Verdict::Refused(r) = found {
         return Verdict::Refused(r);
     }
@@ -32,8 +36,7 @@ pub fn data_checks(rec: Reception, list: &[u64], offset: u64, length: u64) -> Ve
     if LARGEST - offset < length {
         return Verdict::Refused(Refusal::RangeTooLong);
     }
-    let width = rec.width;
-    if width.limit() < offset + length {
+    if top < offset + length {
         return Verdict::Refused(Refusal::LargeFileSegmentNotSupported);
     }
     if past_size(rec, offset + length) {

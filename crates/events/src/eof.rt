@@ -6,24 +6,27 @@ ghost use Rattle.outcomes.specs.Checks.{verdictCase, firstOf};
 ghost use Rattle.reception.specs.Eof.{eofChecks, eofCase, eofOutcome, eofRecord, eofList};
 use crate::inner::finish;
 use crate::inner::other_size;
-use crate::inner::record_checks;
+use crate::inner::record_verdict;
 use outcomes::Refusal;
 use outcomes::Verdict;
 use ranges::inner::cut::Remains;
 use reception::Reception;
 use reception::eof::EofAnswer;
 use reception::eof::EofDone;
+use searches::inner::checks::check;
 
 // The checks before that of the room.
 pub fn eof_checks(rec: Reception, list: &[u64], size: u64) -> Verdict
     ensures { λ r. ⌜ verdictCase r ≡ firstOf (eofChecks rec (now (list .entry)) size) (accepted []) ⌝ }
 {
-    let found = record_checks(rec, list);
+    let width = rec.width;
+    let top = width.limit();
+    let read = check(list, rec.count, top);
+    let found = record_verdict(rec, list, top, read);
     if let Verdict::Refused(r) = found {
         return Verdict::Refused(r);
     }
-    let width = rec.width;
-    if width.limit() < size {
+    if top < size {
         return Verdict::Refused(Refusal::LargeFileSegmentNotSupported);
     }
     if other_size(rec, size) {

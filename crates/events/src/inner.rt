@@ -4,8 +4,8 @@ ghost use mathlib.Core.Path.{_≡_};
 ghost use mathlib.Core.Bool.{true, false, _&&_, _||_, not};
 ghost use Prim.Native.Nat.{_+_, _*_, _<_, _≤_, max};
 ghost use lib.ListN.{length};
-ghost use Rattle.ranges.specs.Range.{Coalesced, lastEnd};
-ghost use Rattle.ranges.specs.Store.{counted, capacity, limitOf, stored, mostNumbers};
+ghost use Rattle.ranges.specs.Range.{Coalesced, isCoalesced, lastEnd};
+ghost use Rattle.ranges.specs.Store.{counted, capacity, limitOf, isBadStore, stored, mostNumbers};
 ghost use Rattle.ranges.specs.Inner.Cut.{cutAnswer, cutList};
 ghost use mathlib.Core.List.{[]};
 ghost use Rattle.outcomes.specs.Outcome.{accepted};
@@ -15,12 +15,14 @@ ghost use Rattle.reception.specs.Data.{isPastSize, keptRanges, dataRanges};
 ghost use Rattle.reception.specs.Eof.{isOtherSize, eofRanges};
 use cutting::inner::cut;
 use inserting::inner::insert;
+use inserting::inner::insert_behind;
 use inserting::inner::larger;
 use lists::inner::pairs::put_pair;
 use outcomes::Refusal;
 use outcomes::Verdict;
 use ranges::inner::cut::Remains;
 use reception::Reception;
+use searches::inner::checks::Checked;
 use searches::inner::checks::check;
 use searches::inner::checks::last_end;
 use searches::inner::halving::first_above;
@@ -99,13 +101,12 @@ pub fn other_size(rec: Reception, z: u64) -> bool
     false
 }
 
-// The checks that every event begins with: 10, 8, 12.
-pub fn record_checks(rec: Reception, list: &[u64]) -> Verdict
+// The checks that every event begins with, where the list is read already: 10, 8, 12.
+pub fn record_verdict(rec: Reception, list: &[u64], top: u64, found: Checked) -> Verdict
+    requires { ⌜ (top ≡ limitOf (rec .width)) × (found .bad ≡ isBadStore (now list) (rec .count) top) ⌝ }
+    requires { ⌜ (found .bad ≡ false → found .coalesced ≡ isCoalesced (counted (now list) (rec .count))) ⌝ }
     ensures { λ r. ⌜ verdictCase r ≡ firstOf (recordChecks rec (now (list .entry))) (accepted []) ⌝ }
 {
-    let width = rec.width;
-    let top = width.limit();
-    let found = check(list, rec.count, top);
     if found.bad {
         return Verdict::Refused(Refusal::BadStore);
     }
@@ -122,6 +123,16 @@ pub fn record_checks(rec: Reception, list: &[u64]) -> Verdict
         return Verdict::Refused(Refusal::ScopeBelowList);
     }
     Verdict::Passed
+}
+
+// The same, and the list is read here. An event reads it itself: compiled, its record then need not lie in memory.
+pub fn record_checks(rec: Reception, list: &[u64]) -> Verdict
+    ensures { λ r. ⌜ verdictCase r ≡ firstOf (recordChecks rec (now (list .entry))) (accepted []) ⌝ }
+{
+    let width = rec.width;
+    let top = width.limit();
+    let found = check(list, rec.count, top);
+    record_verdict(rec, list, top, found)
 }
 
 // While waiting: the list is (0, to).
@@ -146,7 +157,7 @@ fn keep(list: &mut [u64], count: usize, p: u64, a: u64, e: u64) -> Remains
 {
     let room = list.len() / 2;
     if p < a {
-        return insert(list, count, p, a, room);
+        return insert_behind(list, count, p, a, room);
     }
     // Data in order: no range ends above progress.
     if p == a {

@@ -4,17 +4,21 @@ ghost use mathlib.Core.List.{[]};
 ghost use Rattle.outcomes.specs.Outcome.{accepted};
 ghost use Rattle.outcomes.specs.Checks.{verdictCase, firstOf};
 ghost use Rattle.reception.specs.Metadata.{metadataChecks, metadataCase, metadataOutcome, metadataRecord};
-use crate::inner::record_checks;
+use crate::inner::record_verdict;
 use outcomes::Refusal;
 use outcomes::Verdict;
 use reception::Reception;
 use reception::metadata::MetadataAnswer;
 use reception::metadata::MetadataDone;
+use searches::inner::checks::check;
 
 pub fn metadata_checks(rec: Reception, list: &[u64]) -> Verdict
     ensures { λ r. ⌜ verdictCase r ≡ firstOf (metadataChecks rec (now (list .entry))) (accepted []) ⌝ }
 {
-    let found = record_checks(rec, list);
+    let width = rec.width;
+    let top = width.limit();
+    let read = check(list, rec.count, top);
+    let found = record_verdict(rec, list, top, read);
     if let Verdict::Refused(r) = found {
         return Verdict::Refused(r);
     }

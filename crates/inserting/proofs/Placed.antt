@@ -1,21 +1,25 @@
--- What `first_reaching` finds, and what `insert` answers and leaves at each of its ends.
+-- What `first_reaching` and `near_above` find, and what `insert` answers and leaves at each of its ends.
 use mathlib.Core.Path.{_≡_, refl, sym, ap, ap₂, _∙_}
+use mathlib.Core.Bool.{Bool, true, false}
 use mathlib.Core.List.{List, [], _∷_, _++_}
-use Prim.Native.Nat.{ℕ, suc, _+_, _*_, _-_, _≤_, _<_, min, max}
+use Prim.Native.Nat.{ℕ, zero, suc, _+_, _*_, _-_, _≤_, _<_, min, max}
 use native.Mathlib.Omega.{arith}
-use lib.ListN.{length, set, length-append}
+use lib.ListN.{length, drop, set, length-append}
+use lib.Seq.{drop-drop}
 use lib.Dec.{leb·zero}
 use borrow.Author.Tests.{lt-ltb, le-ltb}
-use Rattle.ranges.specs.Range.{Range, range, Above, Coalesced, rangeAt, lastEnd}
+use Rattle.ranges.specs.Range.{Range, range, Above, Coalesced, place, rangeAt, lastEnd}
 use Rattle.ranges.specs.Store.{counted, stored, startAt, endAt}
 use Rattle.ranges.specs.Insert.{insert}
-use Rattle.ranges.specs.Inner.Cut.{first, behind, cutAnswer, cutList}
+use Rattle.ranges.specs.Inner.Cut.{from, first, behind, cutAnswer, cutList}
 use Rattle.ranges.specs.Inner.Moves.{replaced, ofTwo}
 use Rattle.ranges.specs.declared.inner.cut.Remains.{Remains}
 use Rattle.ranges.specs.declared.inner.cut.Remains.the-variants.{Full, Left}
-use Rattle.ranges.proofs.Flat.{getD-counted, length-counted}
+use Rattle.ranges.proofs.Flat.{at as rangeOf, getD-counted, length-counted, counted-last}
 use Rattle.ranges.proofs.Last.{ends-le, last-tail}
-use Rattle.ranges.proofs.Stored.{stored-push}
+use Rattle.ranges.proofs.Halving.{above-at}
+use Rattle.ranges.proofs.Insert.{insert-over}
+use Rattle.ranges.proofs.Stored.{stored-push, stored-last}
 use Rattle.ranges.proofs.Replaced.{length-replaced}
 use Rattle.inserting.specs.Inner.{reaching}
 use Rattle.inserting.proofs.Run.{made, insert-run}
@@ -27,6 +31,24 @@ reaching-zero (r ∷ rs) = rw (leb·zero (r .end))
 
 pub reaching-next : (s : ℕ) (rs : List Range) → 0 < s → first (s - 1) rs ≡ reaching s rs
 reaching-next s rs h = let e : suc (s - 1) ≡ s = omega arith in ap (λ (k : ℕ). reaching k rs) e
+
+-- the place of the first that passes, looked for from a later place that is not behind it
+place-drop : (t : Range → Bool) (d : ℕ) (rs : List Range) → d ≤ place t rs → d + place t (drop d rs) ≡ place t rs
+place-drop t zero rs h = omega arith
+place-drop t (suc d) [] h = absurd (omega arith)
+place-drop t (suc d) (r ∷ rs) h = go (t r) refl (place-drop t d rs)
+  where
+    go : (u : Bool) → t r ≡ u → (d ≤ place t rs → d + place t (drop d rs) ≡ place t rs) → suc d + place t (drop d rs) ≡ place t (r ∷ rs)
+    go true e i = let k = rw e at h in absurd (omega (arith, k))
+    go false e i = let k = rw e at h in let j = i (omega (arith, k)) in rw e (omega (arith, j))
+
+pub behind-later : (i k b : ℕ) (rs : List Range) → i ≤ k → k ≤ behind i b rs → behind k b rs ≡ behind i b rs
+behind-later i k b rs h l =
+    let e : i + (k - i) ≡ k = omega arith in
+    let p = place-drop (from b) (k - i) (drop i rs) (omega arith) in
+    let q : drop (k - i) (drop i rs) ≡ drop k rs = drop-drop (k - i) i rs ∙ ap (λ (m : ℕ). drop m rs) e in
+    let w = rw q at p in
+    omega (arith, w)
 
 -- what `insert` finds: the ranges from place i up to place j are those that (s, e) overlaps or touches
 pub record InsertRun (xs : List ℕ) (n s e room i j : ℕ) : Type 0 where
@@ -87,17 +109,45 @@ behind-all s e d (r ∷ rs) a h =
     let l = last-tail d r rs a in
     rw (lt-ltb (r .end) s (omega arith)) (ap (λ (qs : List Range). r ∷ qs) (behind-all s e (suc (r .end)) rs (a .2) (omega arith)))
 
-module _ (xs : List ℕ) (n s e room : ℕ) (counts : n ≤ room) (lies : 2 * room ≤ length xs) (whole : Coalesced (counted xs n)) (late : lastEnd (counted xs n) < s) where
+module _ (xs : List ℕ) (n s e room : ℕ) (counts : n ≤ room) (lies : 2 * room ≤ length xs) where
   abbrev new : List Range
   new = counted xs n ++ (range s e ∷ [])
 
   length-new : length new ≡ n + 1
   length-new = length-append (counted xs n) (range s e ∷ []) ∙ ap (λ (k : ℕ). k + 1) (length-counted xs n (omega arith))
 
-  pub behind-full : n ≡ room → (Full ≡ cutAnswer room (insert (range s e) (counted xs n))) × (xs ≡ cutList room (insert (range s e) (counted xs n)) n xs)
-  behind-full h = rw (behind-all s e 0 (counted xs n) whole late, lt-ltb room (length new) (omega (arith, length-new))) (refl, refl)
+  -- one range more, for which there is no room or room
+  pub more-full : insert (range s e) (counted xs n) ≡ new → n ≡ room
+      → (Full ≡ cutAnswer room (insert (range s e) (counted xs n))) × (xs ≡ cutList room (insert (range s e) (counted xs n)) n xs)
+  more-full q h = rw (q, lt-ltb room (length new) (omega (arith, length-new))) (refl, refl)
 
-  pub behind-put : n < room
+  pub more-put : insert (range s e) (counted xs n) ≡ new → n < room
       → (Left (n + 1) ≡ cutAnswer room (insert (range s e) (counted xs n)))
       × (set (set xs (2 * n) s) (2 * n + 1) e ≡ cutList room (insert (range s e) (counted xs n)) n xs)
-  behind-put h = rw (behind-all s e 0 (counted xs n) whole late, le-ltb room (length new) (omega (arith, length-new))) (ap Left (sym length-new), stored-push xs n s e (omega arith))
+  more-put q h = rw (q, le-ltb room (length new) (omega (arith, length-new))) (ap Left (sym length-new), stored-push xs n s e (omega arith))
+
+  -- where there is none, it is the first
+  pub more-first : n ≡ 0 → insert (range s e) (counted xs n) ≡ new
+  more-first h = rw h
+
+  module _ (whole : Coalesced (counted xs n)) where
+    pub more-late : lastEnd (counted xs n) < s → insert (range s e) (counted xs n) ≡ new
+    more-late late = behind-all s e 0 (counted xs n) whole late
+
+    -- where it starts at the end of the last, which is at place p, it makes that one longer
+    longer : (p : ℕ) → n ≡ suc p → s < e → endAt xs p ≡ s → insert (range s e) (counted xs n) ≡ counted xs p ++ (range (startAt xs p) e ∷ [])
+    longer p np lt ends =
+        let w : counted xs n ≡ counted xs p ++ (rangeOf xs p ∷ []) = ap (counted xs) np ∙ counted-last xs p (omega arith) in
+        let g = getD-counted xs n p (omega arith) (omega arith) in
+        let l = length-counted xs n (omega arith) in
+        let o = rw g at (above-at 0 (counted xs n) p whole (omega arith)) in
+        rw w
+        (insert-over 0 (counted xs p) (rangeOf xs p) (range s e) (rw w at whole) (omega (arith, o .1)) lt (omega arith)
+        ∙ ap (λ (r : Range). counted xs p ++ (r ∷ [])) (ap₂ range (omega (arith, o .1)) (omega arith)))
+
+    pub more-longer : (p : ℕ) → n ≡ suc p → s < e → endAt xs p ≡ s
+        → (Left n ≡ cutAnswer room (insert (range s e) (counted xs n))) × (set xs (2 * p + 1) e ≡ cutList room (insert (range s e) (counted xs n)) n xs)
+    more-longer p np lt ends =
+        let m : List Range = counted xs p ++ (range (startAt xs p) e ∷ []) in
+        let k : length m ≡ n = length-append (counted xs p) (range (startAt xs p) e ∷ []) ∙ ap (λ (j : ℕ). j + 1) (length-counted xs p (omega arith)) ∙ omega arith in
+        rw (longer p np lt ends, le-ltb room (length m) (omega (arith, k))) (ap Left (sym k), stored-last xs n p e np (omega arith))

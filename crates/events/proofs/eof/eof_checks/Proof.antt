@@ -18,20 +18,20 @@ use Rattle.events.proofs.eof.eof_checks.Statement.{statement}
 use Rattle.events.proofs.eof.eof_checks.Tie as tie
 
 -- the record, the list and the size that the call begins with
-abbrev rec : tie.After-record-checks → Reception
-rec b = b .before .before .args .rec
+abbrev rec : tie.After-record-verdict → Reception
+rec b = b .before .before .before .before .args .rec
 
-abbrev xs : tie.After-record-checks → List ℕ
-xs b = b .before .before .args .list .now
+abbrev xs : tie.After-record-verdict → List ℕ
+xs b = b .before .before .before .before .args .list .now
 
-abbrev z : tie.After-record-checks → ℕ
-z b = b .before .before .args .size
+abbrev z : tie.After-record-verdict → ℕ
+z b = b .before .before .before .before .args .size
 
-fault : (b : tie.After-record-checks) → verdictCase (b .record-checks .result) ≡ firstOf (recordChecks (rec b) (xs b)) (accepted [])
-fault b = b .record-checks .ensures
+fault : (b : tie.After-record-verdict) → verdictCase (b .record-verdict .result) ≡ firstOf (recordChecks (rec b) (xs b)) (accepted [])
+fault b = b .record-verdict .ensures
 
 -- checks 10, 8 and 12 are passed
-abbrev fromP : tie.After-enum-told → tie.After-record-checks
+abbrev fromP : tie.After-enum-told → tie.After-record-verdict
 fromP c = c .before .before
 
 passed : (c : tie.After-enum-told) → Passed (xs (fromP c)) (rec (fromP c))
@@ -42,14 +42,20 @@ behind : (c : tie.After-enum-told) → let b = fromP c in
     firstOf (sizeChecks (rec b) (z b)) (accepted []) ≡ firstOf (recordChecks (rec b) (xs b) ++ sizeChecks (rec b) (z b)) (accepted [])
 behind c = let b = fromP c in behind-record (xs b) (rec b) (passed c) (sizeChecks (rec b) (z b)) (accepted [])
 
-limit : (c : tie.After-limit) → c .limit .result ≡ limitOf (rec (fromP (c .before)) .width)
-limit c = c .limit .ensures
+limit : (b : tie.After-record-verdict) → b .before .before .limit .result ≡ limitOf (rec b .width)
+limit b = b .before .before .limit .ensures
 
-small : (c : tie.Else1) → z (fromP (c .before .before)) ≤ limitOf (rec (fromP (c .before .before)) .width)
-small c = omega (arith, limit (c .before), c .if1 .left)
+small : (c : tie.Else1) → z (fromP (c .before)) ≤ limitOf (rec (fromP (c .before)) .width)
+small c = omega (arith, limit (fromP (c .before)), c .if1 .left)
 
-record-checks-requires : tie.Need-record-checks-requires
-record-checks-requires c κs = search needs
+limit-requires : tie.Need-limit-requires
+limit-requires c κs = search needs
+
+check-requires : tie.Need-check-requires
+check-requires c κs = search needs
+
+record-verdict-requires : tie.Need-record-verdict-requires
+record-verdict-requires c κs = search needs
 
 enum-known-found : tie.Need-enum-known-found
 enum-known-found c = search needs
@@ -63,14 +69,11 @@ returns c =
 enum-told : tie.Need-enum-told
 enum-told c = search needs
 
-limit-requires : tie.Need-limit-requires
-limit-requires c κs = search needs
-
 returns-2 : tie.Need-returns-2
 returns-2 c =
-    let p = c .before .before in
+    let p = c .before in
     let b = fromP p in
-    let large : limitOf (rec b .width) < z b = omega (arith, limit (c .before), c .if1 .taken) in
+    let large : limitOf (rec b .width) < z b = omega (arith, limit b, c .if1 .taken) in
     rw (← behind p) (rw (lt-ltb _ _ large))
 
 other-size-requires : tie.Need-other-size-requires
@@ -79,22 +82,23 @@ other-size-requires c κs = search needs
 returns-3 : tie.Need-returns-3
 returns-3 c =
     let d = c .before .before in
-    rw (← behind (d .before .before)) (rw (le-ltb _ _ (small d), sym (c .before .other-size .ensures) ∙ c .if2 .taken))
+    rw (← behind (d .before)) (rw (le-ltb _ _ (small d), sym (c .before .other-size .ensures) ∙ c .if2 .taken))
 
 returns-4 : tie.Need-returns-4
 returns-4 c =
     let d = c .before .before in
-    rw (← behind (d .before .before)) (rw (le-ltb _ _ (small d), sym (c .before .other-size .ensures) ∙ c .if2 .left))
+    rw (← behind (d .before)) (rw (le-ltb _ _ (small d), sym (c .before .other-size .ensures) ∙ c .if2 .left))
 
 pub eof-checks-spec : {M : Type 1} → statement M
 eof-checks-spec =
     tie.close
     (tie.spec
-    record-checks-requires
+    limit-requires
+    check-requires
+    record-verdict-requires
     enum-known-found
     returns
     enum-told
-    limit-requires
     returns-2
     other-size-requires
     returns-3

@@ -19,8 +19,8 @@ found b =
     let n : suc (a .e - 1) ≡ a .e = omega (arith, start b .pre .0) in
     b .first-above .ensures .0 ∙ ap (λ (k : ℕ). behind (b .before .before .first-past .result) k (counted (a .list .now) (a .count))) n
 
-insert-requires : tie.Need-insert-requires
-insert-requires c κs = search needs
+insert-behind-requires : tie.Need-insert-behind-requires
+insert-behind-requires c κs = search needs
 
 same-length : tie.Need-same-length
 same-length c = search needs
@@ -29,7 +29,7 @@ returns : tie.Need-returns
 returns c = let q = c .before .before .before .before .before .before in
     let a = q .args in
     rw (kept-gap (a .p) (a .a) (a .e) (counted (a .list .now) (a .count)) (omega arith) (q .pre .1 .0) (q .pre .1 .1) (c .before .before .before .before .if1 .taken))
-    (c .before .before .insert .ensures)
+    (c .before .before .insert-behind .ensures)
 
 returns-2 : tie.Need-returns-2
 returns-2 c = let q = c .before .before .before in
@@ -66,14 +66,15 @@ same-length-3 c = search needs
 returns-4 : tie.Need-returns-4
 returns-4 c = let q = c .before .before .before .before .before .before .before .before .before .before .before .before in
     let a = q .args in
-    rw (kept-within (a .p) (a .a) (a .e) (counted (a .list .now) (a .count)) (omega arith) (q .pre .1 .0) (q .pre .1 .1) (c .before .before .before .before .before .before .before .before .before .before .if1 .left))
+    let within = c .before .before .before .before .before .before .before .before .before .before .if1 .left in
+    rw (kept-within (a .p) (a .a) (a .e) (counted (a .list .now) (a .count)) (omega arith) (q .pre .1 .0) (q .pre .1 .1) within)
     (c .before .before .cut .ensures .0, c .before .before .cut .ensures .1 .1)
 
 pub keep-spec : {M : Type 1} → statement M
 keep-spec =
     tie.close
     (tie.spec
-    insert-requires
+    insert-behind-requires
     same-length
     returns
     returns-2

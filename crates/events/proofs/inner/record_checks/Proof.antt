@@ -1,69 +1,7 @@
--- `record_checks` meets its contract: the tests of 10, 8 and 12 in order.
-use native.Mathlib.Omega.{arith}
-use mathlib.Core.Path.{_≡_, sym, _∙_}
-use mathlib.Core.Bool.{true, false, _||_}
-use mathlib.Core.List.{List}
-use Prim.Native.Nat.{ℕ, _≤_, _<_}
-use borrow.Author.Tests.{not-true, not-false, lt-ltb, le-ltb}
+-- `record_checks` meets its contract: the list is read, and the verdict is that of its callee.
 use borrow.Author.Needs.{needs}
-use Rattle.ranges.specs.Range.{isCoalesced, lastEnd}
-use Rattle.ranges.specs.Store.{counted, limitOf, isBadStore}
-use Rattle.ranges.proofs.Good.{Good, good}
-use Rattle.reception.specs.declared.Reception.{Reception}
-use Rattle.reception.specs.Record.{isWrongWait, isWrongSize, isBadRecord}
-use Rattle.reception.proofs.Sound.{ten-store, ten-progress, ten-wait}
 use Rattle.events.proofs.inner.record_checks.Statement.{statement}
 use Rattle.events.proofs.inner.record_checks.Tie as tie
-
--- the record, the list and the limit, where the store is checked
-abbrev rec : tie.After-check → Reception
-rec c = c .before .before .before .args .rec
-
-abbrev xs : tie.After-check → List ℕ
-xs c = c .before .before .before .args .list .now
-
-top : (c : tie.After-check) → c .before .limit .result ≡ limitOf (rec c .width)
-top c = c .before .limit .ensures
-
-bad : (c : tie.After-check) → c .check .result .bad ≡ isBadStore (xs c) (rec c .count) (limitOf (rec c .width))
-bad c = rw (top c) at (c .check .ensures .0)
-
--- the store is good
-store : (c : tie.Else1) → isBadStore (xs (c .before)) (rec (c .before) .count) (limitOf (rec (c .before) .width)) ≡ false
-store c = sym (bad (c .before)) ∙ c .if1 .left
-
-room : (c : tie.Else1) → Good (xs (c .before)) (rec (c .before) .count) (limitOf (rec (c .before) .width))
-room c = good _ _ _ (store c)
-
-whole : (c : tie.Else1) → c .before .check .result .coalesced ≡ isCoalesced (counted (xs (c .before)) (rec (c .before) .count))
-whole c = c .before .check .ensures .1 (c .if1 .left)
-
--- progress is in the limit
-abbrev from2 : tie.Else2 → tie.Else1
-from2 c = c .before .before
-
-small : (c : tie.Else2) → rec (from2 c .before) .progress ≤ limitOf (rec (from2 c .before) .width)
-small c = rw (top (from2 c .before)) at (c .if2 .left)
-
-rest : (c : tie.After-wrong-rest) → let b = from2 (c .before) .before in c .wrong-rest .result ≡ (isWrongWait (xs b) (rec b) || isWrongSize (rec b))
-rest c = c .wrong-rest .ensures
-
--- check 10 is passed
-abbrev from3 : tie.Else3 → tie.Else1
-from3 c = from2 (c .before .before)
-
-ten : (c : tie.Else3) → isBadRecord (xs (from3 c .before)) (rec (from3 c .before)) ≡ false
-ten c = let e = from3 c in ten-wait (xs (e .before)) (rec (e .before)) (store e) (small (c .before .before)) ∙ (sym (rest (c .before)) ∙ c .if3 .left)
-
--- check 8 is passed
-abbrev from4 : tie.Else4 → tie.Else1
-from4 c = from3 (c .before .before)
-
-eight : (c : tie.Else4) → isCoalesced (counted (xs (from4 c .before)) (rec (from4 c .before) .count)) ≡ true
-eight c = sym (whole (from4 c)) ∙ not-false _ (c .if4 .left)
-
-last : (c : tie.After-last-end) → c .last-end .result ≡ lastEnd (counted (xs (from4 (c .before) .before)) (rec (from4 (c .before) .before) .count))
-last c = c .last-end .ensures
 
 limit-requires : tie.Need-limit-requires
 limit-requires c κs = search needs
@@ -71,55 +9,11 @@ limit-requires c κs = search needs
 check-requires : tie.Need-check-requires
 check-requires c κs = search needs
 
+record-verdict-requires : tie.Need-record-verdict-requires
+record-verdict-requires c κs = search needs
+
 returns : tie.Need-returns
-returns c = let b = c .before in rw (ten-store (xs b) (rec b) (sym (bad b) ∙ c .if1 .taken))
-
-returns-2 : tie.Need-returns-2
-returns-2 c =
-    let e = c .before .before in
-    let b = e .before in
-    rw (ten-progress (xs b) (rec b) (store e) (rw (top b) at (c .if2 .taken)))
-
-wrong-rest-requires : tie.Need-wrong-rest-requires
-wrong-rest-requires c κs = room (from2 c) .room
-
-returns-3 : tie.Need-returns-3
-returns-3 c =
-    let e = from2 (c .before .before) in
-    let b = e .before in
-    rw (ten-wait (xs b) (rec b) (store e) (small (c .before .before)) ∙ (sym (rest (c .before)) ∙ c .if3 .taken))
-
-returns-4 : tie.Need-returns-4
-returns-4 c =
-    let e = from3 (c .before .before) in
-    rw (ten (c .before .before), sym (whole e) ∙ not-true _ (c .if4 .taken))
-
-last-end-requires : tie.Need-last-end-requires
-last-end-requires c κs = room (from4 c) .room
-
-returns-5 : tie.Need-returns-5
-returns-5 c =
-    let p = c .before .before .before in
-    let below : rec (from4 p .before) .progress < lastEnd (counted (xs (from4 p .before)) (rec (from4 p .before) .count)) = rw (last (c .before .before)) at (c .if5 .taken) in
-    rw (ten (p .before .before), eight p, lt-ltb _ _ below)
-
-returns-6 : tie.Need-returns-6
-returns-6 c =
-    let p = c .before .before .before in
-    let above : lastEnd (counted (xs (from4 p .before)) (rec (from4 p .before) .count)) ≤ rec (from4 p .before) .progress = rw (last (c .before .before)) at (c .if5 .left) in
-    rw (ten (p .before .before), eight p, le-ltb _ _ above)
+returns c = search needs
 
 pub record-checks-spec : {M : Type 1} → statement M
-record-checks-spec =
-    tie.close
-    (tie.spec
-    limit-requires
-    check-requires
-    returns
-    returns-2
-    wrong-rest-requires
-    returns-3
-    returns-4
-    last-end-requires
-    returns-5
-    returns-6)
+record-checks-spec = tie.close (tie.spec limit-requires check-requires record-verdict-requires returns)

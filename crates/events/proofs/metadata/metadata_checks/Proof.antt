@@ -15,17 +15,17 @@ use Rattle.events.proofs.metadata.metadata_checks.Statement.{statement}
 use Rattle.events.proofs.metadata.metadata_checks.Tie as tie
 
 -- the record and the list that the call begins with
-abbrev rec : tie.After-record-checks → Reception
-rec b = b .before .before .args .rec
+abbrev rec : tie.After-record-verdict → Reception
+rec b = b .before .before .before .before .args .rec
 
-abbrev xs : tie.After-record-checks → List ℕ
-xs b = b .before .before .args .list .now
+abbrev xs : tie.After-record-verdict → List ℕ
+xs b = b .before .before .before .before .args .list .now
 
-fault : (b : tie.After-record-checks) → verdictCase (b .record-checks .result) ≡ firstOf (recordChecks (rec b) (xs b)) (accepted [])
-fault b = b .record-checks .ensures
+fault : (b : tie.After-record-verdict) → verdictCase (b .record-verdict .result) ≡ firstOf (recordChecks (rec b) (xs b)) (accepted [])
+fault b = b .record-verdict .ensures
 
 -- checks 10, 8 and 12 are passed
-abbrev from : tie.After-enum-told → tie.After-record-checks
+abbrev from : tie.After-enum-told → tie.After-record-verdict
 from c = c .before .before
 
 passed : (c : tie.After-enum-told) → Passed (xs (from c)) (rec (from c))
@@ -34,8 +34,14 @@ passed c = none-of (recordChecks (rec (from c)) (xs (from c))) (ap verdictCase (
 behind : (c : tie.After-enum-told) → let b = from c in firstOf (markChecks (rec b)) (accepted []) ≡ firstOf (recordChecks (rec b) (xs b) ++ markChecks (rec b)) (accepted [])
 behind c = let b = from c in behind-record (xs b) (rec b) (passed c) (markChecks (rec b)) (accepted [])
 
-record-checks-requires : tie.Need-record-checks-requires
-record-checks-requires c κs = search needs
+limit-requires : tie.Need-limit-requires
+limit-requires c κs = search needs
+
+check-requires : tie.Need-check-requires
+check-requires c κs = search needs
+
+record-verdict-requires : tie.Need-record-verdict-requires
+record-verdict-requires c κs = search needs
 
 enum-known-found : tie.Need-enum-known-found
 enum-known-found c = search needs
@@ -56,4 +62,4 @@ returns-3 : tie.Need-returns-3
 returns-3 c = rw (← behind (c .before .before)) (rw (c .if1 .left))
 
 pub metadata-checks-spec : {M : Type 1} → statement M
-metadata-checks-spec = tie.close (tie.spec record-checks-requires enum-known-found returns enum-told returns-2 returns-3)
+metadata-checks-spec = tie.close (tie.spec limit-requires check-requires record-verdict-requires enum-known-found returns enum-told returns-2 returns-3)

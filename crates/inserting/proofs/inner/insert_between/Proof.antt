@@ -9,29 +9,29 @@ use Rattle.inserting.proofs.inner.insert_between.Statement.{statement}
 use Rattle.inserting.proofs.inner.insert_between.Tie as tie
 use Rattle.inserting.proofs.inner.first_reaching.Reads as first-reaching-reads
 use Rattle.inserting.proofs.inner.larger.Reads as larger-reads
+use Rattle.inserting.proofs.inner.near_above.Reads as near-above-reads
 use Rattle.inserting.proofs.inner.smaller.Reads as smaller-reads
-use Rattle.searches.proofs.inner.halving.first_above.Reads as first-above-reads
 use Rattle.lists.proofs.inner.moves.replace.Reads as replace-reads
 use Rattle.lists.proofs.inner.pairs.end_at.Reads as end-at-reads
 use Rattle.lists.proofs.inner.pairs.start_at.Reads as start-at-reads
 
 -- what the call begins with, and the places found
-abbrev start : tie.After-first-above → tie.Start
+abbrev start : tie.After-near-above → tie.Start
 start b = b .before .before .before .before .before
 
-abbrev xs : tie.After-first-above → List ℕ
+abbrev xs : tie.After-near-above → List ℕ
 xs b = start b .args .list .now
 
-abbrev n : tie.After-first-above → ℕ
+abbrev n : tie.After-near-above → ℕ
 n b = start b .args .n
 
-abbrev i : tie.After-first-above → ℕ
+abbrev i : tie.After-near-above → ℕ
 i b = b .before .before .first-reaching .result
 
-abbrev j : tie.After-first-above → ℕ
-j b = b .first-above .result
+abbrev j : tie.After-near-above → ℕ
+j b = b .near-above .result
 
-run : (b : tie.After-first-above) → InsertRun (xs b) (n b) (start b .args .s) (start b .args .e) (start b .args .room) (i b) (j b)
+run : (b : tie.After-near-above) → InsertRun (xs b) (n b) (start b .args .s) (start b .args .e) (start b .args .room) (i b) (j b)
 run b =
     let p = start b .pre in
     record {
@@ -40,16 +40,16 @@ run b =
       ordered = p .0 .1 .1 .1;
       whole = p .1;
       start = b .before .before .first-reaching .ensures .0;
-      end = b .first-above .ensures .0;
-      before = b .first-above .ensures .1 .0;
-      inside = b .first-above .ensures .1 .1;
+      end = b .near-above .ensures .0;
+      before = b .near-above .ensures .1 .0;
+      inside = b .near-above .ensures .1 .1;
     }
 
 first-reaching-requires : tie.Need-first-reaching-requires
 first-reaching-requires c κs = search needs
 
-first-above-requires : tie.Need-first-above-requires
-first-above-requires c κs = search needs
+near-above-requires : tie.Need-near-above-requires
+near-above-requires c κs = search needs
 
 same-length : tie.Need-same-length
 same-length c = search needs
@@ -114,7 +114,7 @@ insert-between-spec =
     tie.close
     (tie.spec
     first-reaching-requires
-    first-above-requires
+    near-above-requires
     same-length
     returns
     replace-requires

@@ -10,9 +10,9 @@ use Rattle.console_calls.proofs.inner.map.cell_start.Tie as tie
 parts : (i t n : ℕ) → 0 < n → i * (t / n) + i * (t % n) / n ≡ i * t / n
 parts i t n h =
     sym (
-      ap (λ (x : ℕ). i * x / n) (sym (div-add-mod' t n))
-      ∙ ap (λ (x : ℕ). x / n) (mul-add i (t / n * n) (t % n) ∙ ap (λ (x : ℕ). x + i * (t % n)) (sym (mul-assoc i (t / n) n)))
-      ∙ mul-add-div-right h (i * (t / n)) (i * (t % n))
+    ap (λ (x : ℕ). i * x / n) (sym (div-add-mod' t n))
+    ∙ ap (λ (x : ℕ). x / n) (mul-add i (t / n * n) (t % n) ∙ ap (λ (x : ℕ). x + i * (t % n)) (sym (mul-assoc i (t / n) n)))
+    ∙ mul-add-div-right h (i * (t / n)) (i * (t % n))
     )
 
 within : (i t n : ℕ) → 0 < n → i ≤ n → i * t / n ≤ t
