@@ -1178,7 +1178,7 @@ def link_reads(rng):
     for edition, flag, ident in shuffled(rng, EDITIONS, FLAGS, ([1, 1, 1, 7, 2], [2, 4, 513, 70000, 7], [8, 8, TOP, 0, 1])):
         lines, large, head = [], flag == 'large', 4 + 2 * ident[0] + ident[1]
         for kind in kinds:
-            requests = [(0, 0), (100, 200)] * (kind != 'long') + [(s, s + 1) for s in range(520)] * (kind == 'long')
+            requests = [(100, 200)] * (255 if large else 511) if kind == 'long' else [(0, 0), (100, 200)]
             if kind in ('reversed', 'empty'):
                 requests.append((9, 4) if kind == 'reversed' else (5, 5))
             packet = octets_of(ident, large, *((9, 4) if kind == 'scope' else (0, 1000)), requests, edition)
