@@ -257,6 +257,10 @@ def codec(rng):
         packet = octets_of(ident, large, 3, top, requests)
         flat = [n for pair in requests for n in pair]
         out += [words('write', *ident, flag, 3, top, len(packet), *flat), words('read', packet.hex())]
+    out.append('# Identifiers of 0 octets and of 9, with numbers that fit them; numbers one too large.')
+    out += [words('write', *ident, 'normal', 0, 9, length) for *ident, length in (
+        (0, 1, 0, 7, 0, 14), (1, 0, 1, 0, 2, 15), (0, 0, 0, 0, 0, 13), (9, 1, 1, 7, 2, 32), (1, 9, 1, 7, 2, 24), (1, 1, 256, 7, 2, 16),
+        (1, 1, 1, 256, 2, 16), (1, 1, 1, 7, 256, 16), (1, 1, 255, 255, 255, 16))]
     out.append('# Faults of writing and reading, and damaged copies.')
     out += short(scripts.pdus_written, 10, 400) + short(scripts.pdus_read, 16, 400)
     out.append('# Packets of 4,095, 4,096 and 4,097 octets, and more than 4,096 pairs.')
