@@ -1,4 +1,4 @@
-pub mod Turn
+pub mod FirstRequest
 pub mod Reading
 pub mod ParsedOf
 pub mod FieldsBack

@@ -17,7 +17,7 @@ ghost use Rattle.ranges.specs.Store.{flat};
 ghost use Rattle.octets.specs.Octets.{fields, withOctets};
 ghost use Rattle.nak.specs.Header.{fixed0, flagBit, octet0};
 ghost use Rattle.nak.specs.Pdu.{saying, headerOctets, identityOctets, dataOctets, dataLength, pdu};
-ghost use Rattle.nak.specs.Inner.{asked, entries, GoodLengths};
+ghost use Rattle.nak.specs.Inner.{metadataFirst, entries, GoodLengths};
 
 fn wide(x: usize) -> u64
     ensures { λ r. ⌜ r ≡ x ⌝ }
@@ -76,9 +76,9 @@ fn put_identity(buf: &mut [u8], at: usize, identity: Identity)
 
 // The metadata request, where it is asked for; answers the place behind it.
 fn put_metadata(buf: &mut [u8], at: usize, f: usize, metadata: bool) -> usize
-    requires { ⌜ at + length (fields f (flat (asked metadata))) ≤ length (now buf) ⌝ }
-    ensures { λ r. ⌜ (r ≡ at + length (fields f (flat (asked metadata))))
-        × (now (buf .exit) ≡ withOctets (now (buf .entry)) at (fields f (flat (asked metadata)))) ⌝ }
+    requires { ⌜ at + length (fields f (flat (metadataFirst metadata))) ≤ length (now buf) ⌝ }
+    ensures { λ r. ⌜ (r ≡ at + length (fields f (flat (metadataFirst metadata))))
+        × (now (buf .exit) ≡ withOctets (now (buf .entry)) at (fields f (flat (metadataFirst metadata)))) ⌝ }
 {
     if !metadata {
         return at;
@@ -100,7 +100,7 @@ fn put_data(
     first: usize,
     count: usize,
 )
-    requires { ⌜ (at + dataLength f (length (flat (asked metadata)) + 2 * count) ≤ length (now buf))
+    requires { ⌜ (at + dataLength f (length (flat (metadataFirst metadata)) + 2 * count) ≤ length (now buf))
         × (2 * first + 2 * count ≤ length (now requests)) ⌝ }
     ensures { λ _. ⌜ now (buf .exit) ≡ withOctets (now (buf .entry)) at (dataOctets f (range start end) (entries metadata (now (requests .entry)) first count)) ⌝ }
 {
