@@ -10,14 +10,17 @@ use Rattle.ranges.specs.Range.{Range, range, Covers}
 use Rattle.ranges.specs.Store.{mostPairs}
 use Rattle.ranges.specs.declared.Width.{Width}
 use Rattle.reception.specs.History.{Event, Data, Metadata, Eof, State, fresh, isAccepted, step, run, metadataCame, toldSize, keptBy, keptFrom, rangesOf}
+use Rattle.reception.proofs.Records.{mark-metadata}
 use Rattle.reception.proofs.Histories.{missing-exact}
+use Rattle.holding.specs.Whole.{AllWhole, NoneRefused}
 use Rattle.holding.proofs.Histories.{filled}
+use Rattle.holding.proofs.Whole.{whole-taken}
 use Rattle.sequence.specs.Entries.{Asking, roundedUp}
 use Rattle.sequence.specs.Sequence.{Order, Allowed, asked}
 use Rattle.sequence.specs.Calls.{Call, AllFit, octetsBy, budgets}
 use Rattle.sequence.specs.Parted.{parted, requestsRead}
-use Rattle.sequence.proofs.Named.{names-missing}
-use Rattle.closing.specs.Arrival.{dataOf, Arrives, NoneRefused}
+use Rattle.sequence.proofs.Named.{requests, names-missing}
+use Rattle.closing.specs.Arrival.{dataOf, Arrives}
 
 -- an accepted event keeps its data and what the later ones keep
 own-kept : (t : Bool) (o n x : ℕ) (rs : List Range) → t ≡ true → Covers x (range o (o + n) ∷ rs) → Covers x (keptBy (t && true) (Data o n) rs)
@@ -65,3 +68,15 @@ module _
     -- the data for every request arrives
     pub closes : (ds : List Event) → Arrives (requestsRead (o .form .edition) (parted octets)) ds → NoneRefused reached ds → rangesOf (run reached ds) ≡ []
     closes ds h a = closes-covered ds (h .covered) a
+
+    -- the metadata is known, so the requests read are the list's ranges
+    requests-are : requestsRead (o .form .edition) (parted octets) ≡ rangesOf reached
+    requests-are = requests w xs N size few es o ok cs fit enough ∙ rw (mark-metadata w xs es, known)
+
+    -- requests that come whole, in any order and repeated, are never refused; so where all of them come, the list is empty
+    pub closes-whole : (ds : List Event) → AllWhole (requestsRead (o .form .edition) (parted octets)) ds
+        → ((x : ℕ) → Covers x (requestsRead (o .form .edition) (parted octets)) → Covers x (dataOf ds))
+        → NoneRefused reached ds × (rangesOf (run reached ds) ≡ [])
+    closes-whole ds a f =
+        let n = whole-taken w xs N size few es known z told ds (rw requests-are at a) in
+        (n, closes-covered ds f n)

@@ -137,7 +137,7 @@ module _
       calls-scopes h = rw parts (scopes-join (reached .rec) (reached .list) o sound ok count every h)
 
       -- the requests read are the entries, in order
-      requests : requestsRead (o .form .edition) (parted octets) ≡ entriesOf (reached .rec .missing) (rangesOf reached)
+      pub requests : requestsRead (o .form .edition) (parted octets) ≡ entriesOf (reached .rec .missing) (rangesOf reached)
       requests =
           let u = up-enough (length (a .entries)) (a .each) (each-low o (ok .size)) in
           let m : length (a .entries) ≤ count * a .each = rw every u in
