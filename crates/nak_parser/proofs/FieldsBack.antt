@@ -27,7 +27,7 @@ use Rattle.nak.specs.Pdu.{Nak, nakCode, headerOctets, identityOctets, dataOctet
 use Rattle.nak.specs.Inner.{GoodLengths}
 use Rattle.nak.proofs.Parts.{length-header, length-data, pdu-front, length-pdu}
 use Rattle.nak.proofs.Checks.{good-lengths, GoodNumbers, good-numbers, NakFine}
-use Rattle.nak_parser.specs.Parser.{octetAt, fieldAt, flagIn, packetForm, fieldLengthIn, entityLengthIn, numberLengthIn, headerLengthIn, lengthField, scopeAt, requestsAt, requestsIn, packetIdentity, scopeIn, packetRequests, nakIn, wrongLength, wrongData, readOutcome}
+use Rattle.nak_parser.specs.Parser.{octetAt, fieldAt, packetFlag, packetForm, fieldLengthIn, entityLengthIn, numberLengthIn, headerLengthIn, lengthField, scopeAt, requestsAt, requestsIn, packetIdentity, scopeIn, packetRequests, nakIn, wrongLength, wrongData, readOutcome}
 use Rattle.nak_parser.proofs.Reading.{header-is, Shape, shape-of, read-fine}
 
 -- the number of a field that stands behind x
@@ -102,8 +102,8 @@ module _ (n : Nak) (fine : NakFine n) where
   abbrev edition : Edition
   edition = n .form .edition
 
-  flag-back : flagIn (pdu n) ≡ n .form .flag
-  unfolding flagIn pdu headerOctets
+  flag-back : packetFlag (pdu n) ≡ n .form .flag
+  unfolding packetFlag pdu headerOctets
   flag-back = flag-of edition (n .form .flag)
 
   pub form-back : packetForm edition (pdu n) ≡ n .form

@@ -22,7 +22,7 @@ use Rattle.nak.specs.declared.Edition.the-variants.{Older, Newer}
 use Rattle.nak.specs.Header.{wrongFixed, fixed0, fixedBits0, fixedBits3, octet0, octet3, isReservedSet, flagOf, formOf, entityLengthOf, numberLengthOf}
 use Rattle.nak.specs.Pdu.{nakCode, headerOctets, identityOctets, dataOctets, dataField, pdu}
 use Rattle.nak.proofs.Parts.{length-data, pdu-front}
-use Rattle.nak_parser.specs.Parser.{octetAt, fieldAt, flagIn, packetForm, fieldLengthIn, entityLengthIn, numberLengthIn, headerLengthIn, lengthField, scopeAt, requestsAt, requestsIn, packetIdentity, scopeIn, packetRequests, nakIn}
+use Rattle.nak_parser.specs.Parser.{octetAt, fieldAt, packetFlag, packetForm, fieldLengthIn, entityLengthIn, numberLengthIn, headerLengthIn, lengthField, scopeAt, requestsAt, requestsIn, packetIdentity, scopeIn, packetRequests, nakIn}
 use Rattle.nak_parser.proofs.Reading.{Read, header-is}
 
 -- an octet of octets is below 256
@@ -112,7 +112,7 @@ room-forth Normal total h len a b c = omega arith
 room-forth Large total h len a b c = omega arith
 
 -- F of a packet is that of its flag
-pub f-is : (p : List ℕ) → fieldLengthIn p ≡ fieldLength (flagIn p)
+pub f-is : (p : List ℕ) → fieldLengthIn p ≡ fieldLength (packetFlag p)
 unfolding fieldLengthIn
 f-is p = refl
 
@@ -124,7 +124,7 @@ requests-at p = refl
 pub requests-room : (v : Edition) (p : List ℕ) → Read v p → length p - requestsAt p ≡ (length p - requestsAt p) / (2 * fieldLengthIn p) * (2 * fieldLengthIn p)
 requests-room v p r =
     let t = r .shape in
-    rw (requests-at p, f-is p) (room-forth (flagIn p) (length p) (headerLengthIn p) (lengthField p) (t .total) (rw (f-is p) at (t .room)) (rw (f-is p) at (t .whole)))
+    rw (requests-at p, f-is p) (room-forth (packetFlag p) (length p) (headerLengthIn p) (lengthField p) (t .total) (rw (f-is p) at (t .room)) (rw (f-is p) at (t .whole)))
 
 module _ (v : Edition) (p : List ℕ) (a : AllOctets p) (r : Read v p) where
   scope-at : scopeAt p ≡ headerLengthIn p + 1
@@ -163,16 +163,16 @@ module _ (v : Edition) (p : List ℕ) (a : AllOctets p) (r : Read v p) where
   unfolding packetRequests
   data-length =
       let t = r .shape in
-      length-data (fieldLength (flagIn p)) (scopeIn p) (packetRequests p)
+      length-data (fieldLength (packetFlag p)) (scopeIn p) (packetRequests p)
       ∙ rw (length-flat (packetRequests p), length-requests-in (fieldLengthIn p) ((length p - requestsAt p) / (2 * fieldLengthIn p)) (drop (requestsAt p) p), requests-at p, f-is p)
-      (count-forth (flagIn p) (length p) (headerLengthIn p) (lengthField p) (t .total) (rw (f-is p) at (t .room)) (rw (f-is p) at (t .whole)))
+      (count-forth (packetFlag p) (length p) (headerLengthIn p) (lengthField p) (t .total) (rw (f-is p) at (t .room)) (rw (f-is p) at (t .whole)))
 
   form-is : octet0 (packetForm v p) ≡ octetAt p 0
-  unfolding flagIn
+  unfolding packetFlag
   form-is = form-forth v (octetAt p 0) (octetAt p 3) (r .shape .fixed) .0
 
-  pub reserved-in : isReservedSet v (flagIn p) ≡ false
-  unfolding flagIn
+  pub reserved-in : isReservedSet v (packetFlag p) ≡ false
+  unfolding packetFlag
   reserved-in = form-forth v (octetAt p 0) (octetAt p 3) (r .shape .fixed) .1
 
   lengths-are : octet3 (entityLengthIn p) (numberLengthIn p) ≡ octetAt p 3

@@ -24,7 +24,7 @@ use Rattle.nak.specs.Pdu.{nakCode}
 use Rattle.nak.specs.Request.{requestsChecks}
 use Rattle.nak.specs.Writer.{largestPdu}
 use Rattle.nak.proofs.Checks.{none-append}
-use Rattle.nak_parser.specs.Parser.{octetAt, fieldAt, flagIn, fieldLengthIn, entityLengthIn, numberLengthIn, headerLengthIn, lengthField}
+use Rattle.nak_parser.specs.Parser.{octetAt, fieldAt, packetFlag, fieldLengthIn, entityLengthIn, numberLengthIn, headerLengthIn, lengthField}
 use Rattle.nak_parser.specs.Parser.{scopeAt, behindScope, requestsAt, requestsIn, packetIdentity, scopeIn, packetRequests, isWrongLength, wrongLength, isWrongData, wrongData, shapeChecks, readChecks, readOutcome}
 
 -- an identity of these lengths and numbers
@@ -67,11 +67,11 @@ module _ (p : List ℕ) where
   -- bounds
   pub field-low : 4 ≤ fieldLengthIn p
   unfolding fieldLengthIn
-  field-low = room.field-low (flagIn p)
+  field-low = room.field-low (packetFlag p)
 
   pub field-high : fieldLengthIn p ≤ 8
   unfolding fieldLengthIn
-  field-high = room.field-high (flagIn p)
+  field-high = room.field-high (packetFlag p)
 
   pub entity-low : 1 ≤ entityLengthIn p
   unfolding entityLengthIn

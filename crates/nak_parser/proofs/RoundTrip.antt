@@ -23,7 +23,7 @@ use Rattle.nak.specs.Inner.{GoodLengths}
 use Rattle.nak.specs.Writer.{isBadList, numbersOf, nakOutcome, writeOutcome, written}
 use Rattle.nak.proofs.Checks.{GoodNumbers, not-bad-identity, NakFine, nak-of, fine-nak, fine-write, write-accepted}
 use Rattle.nak_parser.specs.declared.Parsed.{Parsed}
-use Rattle.nak_parser.specs.Parser.{requestsPart, acceptedParsed, Says, flagIn, fieldLengthIn, entityLengthIn, numberLengthIn, headerLengthIn, scopeAt, requestsAt, requestsIn, packetIdentity, scopeIn, packetRequests, nakIn, readOutcome}
+use Rattle.nak_parser.specs.Parser.{requestsPart, acceptedParsed, Says, packetFlag, fieldLengthIn, entityLengthIn, numberLengthIn, headerLengthIn, scopeAt, requestsAt, requestsIn, packetIdentity, scopeIn, packetRequests, nakIn, readOutcome}
 use Rattle.nak_parser.proofs.Reading.{Read, read-of, header-is, entity-low, entity-high, number-low, number-high}
 use Rattle.nak_parser.proofs.Editions.{one-edition}
 use Rattle.nak_parser.proofs.ParsedOf.{parsed-accepted}
@@ -108,11 +108,11 @@ module _ (v : Edition) (p : List ℕ) (a : AllOctets p) (r : Read v p) where
         destination = part-low p (4 + entityLengthIn p + numberLengthIn p) (entityLengthIn p) a (omega arith);
       }
 
-  numbers-in : anyAbove (largestOf (flagIn p)) (numbersOf (nakIn v p)) ≡ false
+  numbers-in : anyAbove (largestOf (packetFlag p)) (numbersOf (nakIn v p)) ≡ false
   unfolding scopeIn scopeAt packetRequests
   numbers-in =
       let t = r .shape in
-      let g = flagIn p in
+      let g = packetFlag p in
       let x = above-one g (scopeIn p .start) (f-is p) (part-low p (headerLengthIn p + 1) (fieldLengthIn p) a (omega arith)) in
       let y = above-one g (scopeIn p .end) (f-is p) (part-low p (headerLengthIn p + 1 + fieldLengthIn p) (fieldLengthIn p) a (omega arith)) in
       let k = (length p - requestsAt p) / (2 * fieldLength g) in

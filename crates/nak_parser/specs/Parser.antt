@@ -33,16 +33,16 @@ abbrev pub fieldAt : List ℕ → ℕ → ℕ → ℕ
 fieldAt p at f = number (take f (drop at p))
 
 -- The flag of a packet, in octet 0.
-unfoldable pub flagIn : List ℕ → LargeFileFlag
-flagIn p = flagOf (octetAt p 0)
+unfoldable pub packetFlag : List ℕ → LargeFileFlag
+packetFlag p = flagOf (octetAt p 0)
 
 -- The form of a packet, by the link's edition.
 abbrev pub packetForm : Edition → List ℕ → Form
-packetForm e p = record { edition = e; flag = flagIn p }
+packetForm e p = record { edition = e; flag = packetFlag p }
 
 -- F, by the flag.
 unfoldable pub fieldLengthIn : List ℕ → ℕ
-fieldLengthIn p = fieldLength (flagIn p)
+fieldLengthIn p = fieldLength (packetFlag p)
 
 -- I and Q, in octet 3.
 unfoldable pub entityLengthIn : List ℕ → ℕ

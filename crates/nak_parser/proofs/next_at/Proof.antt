@@ -5,7 +5,7 @@ use mathlib.Core.Path.{_≡_, refl, ap, _∙_}
 use mathlib.Core.List.{List}
 use Rattle.octets.specs.Flag.{fieldLength}
 use Rattle.nak.specs.Header.{flagOf}
-use Rattle.nak_parser.specs.Parser.{flagIn, fieldLengthIn}
+use Rattle.nak_parser.specs.Parser.{packetFlag, fieldLengthIn}
 use Rattle.nak_parser.specs.Step.{stepOutcome, placeAfter}
 use Rattle.nak_parser.proofs.Reading.{field-low, field-high}
 use Rattle.nak_parser.proofs.Stepping.{at-end, not-at-end}
@@ -21,7 +21,7 @@ abbrev startF : tie.After-field-length → tie.Start
 startF c = c .before .before .before .before .before .before
 
 f-is : (c : tie.After-field-length) → c .field-length .result ≡ fieldLengthIn (p (startF c))
-unfolding fieldLengthIn flagIn
+unfolding fieldLengthIn packetFlag
 f-is c = c .field-length .ensures ∙ ap fieldLength (c .before .flag-of .ensures ∙ ap flagOf (c .before .before .wide .ensures))
 
 small : (c : tie.After-field-length) → (4 ≤ c .field-length .result) × (c .field-length .result ≤ 8)
