@@ -17,6 +17,7 @@
 struct pusmarke_answer { uint64_t refusal, first, second, third; };
 struct pusmarke_reception { uint64_t progress; size_t count; uint64_t narrow, missing, sized, size; };
 struct pusmarke_identity { size_t entity_length, number_length; uint64_t source, number, destination; };
+struct pusmarke_form { uint64_t older, large; };
 struct pusmarke_nak {
     uint64_t refusal, start, end;
     struct pusmarke_identity identity;
@@ -37,9 +38,9 @@ struct pusmarke_answer pusmarke_eof(struct pusmarke_reception *, uint64_t *, siz
 struct pusmarke_answer pusmarke_held(struct pusmarke_reception, const uint64_t *, size_t, uint64_t, uint64_t);
 struct pusmarke_answer pusmarke_missing_octets(struct pusmarke_reception, const uint64_t *, size_t);
 struct pusmarke_answer pusmarke_nak_sequence(
-    struct pusmarke_reception, const uint64_t *, size_t, struct pusmarke_identity, uint64_t, size_t, size_t,
-    size_t, uint8_t *, size_t);
-struct pusmarke_nak pusmarke_read(const uint8_t *, size_t);
+    struct pusmarke_reception, const uint64_t *, size_t, struct pusmarke_identity, struct pusmarke_form, size_t,
+    size_t, size_t, uint8_t *, size_t);
+struct pusmarke_nak pusmarke_read(const uint8_t *, size_t, uint64_t);
 struct pusmarke_step pusmarke_next(const uint8_t *, size_t, size_t);
 
 void *rust_store(const uint64_t *, size_t);
@@ -368,6 +369,7 @@ static void missing_octets(size_t n)
 }
 
 static const struct pusmarke_identity identity = { 1, 1, 1, 7, 2 };
+static const struct pusmarke_form form = { 0, 0 };
 
 // Progress is the last end: there the Rust's last scope is document 01's.
 static uint64_t port_sequence(struct pusmarke_reception record)
@@ -376,7 +378,7 @@ static uint64_t port_sequence(struct pusmarke_reception record)
     size_t cursor = 0;
     do {
         answer = pusmarke_nak_sequence(
-            record, list, NUMBERS, identity, 0, LARGEST, cursor, BUDGET, octets + at, BUDGET * LARGEST);
+            record, list, NUMBERS, identity, form, LARGEST, cursor, BUDGET, octets + at, BUDGET * LARGEST);
         if (answer.refusal)
             return 0;
         pdus += answer.first;
@@ -403,7 +405,7 @@ static void sequence(size_t n)
 // Reads a packet and steps to its end; hands back the requests.
 static uint64_t port_read(size_t total)
 {
-    struct pusmarke_nak nak = pusmarke_read(octets, total);
+    struct pusmarke_nak nak = pusmarke_read(octets, total, 0);
     size_t at = nak.next;
     uint64_t found = 0;
     if (nak.refusal)

@@ -1,9 +1,9 @@
 #!/usr/bin/env python3
-"""A model of the console, written from document 01, document 02's C-12, C-14, C-16, C-19 and C-24 and the console's language alone.
+"""A model of the console, written from document 01, document 02's C-12, C-14, C-16, C-19, C-20 and C-24 and the console's language alone.
 
     model.py [SCRIPT]      answers the script (or standard input) as the program must
-    model.py --self-test   holds the interval algebra and histories of events against plain sets of offsets, and a PDU's requests
-                           against words of letters
+    model.py --self-test   holds the interval algebra and histories of events against plain sets of offsets, a PDU's requests
+                           against words of letters, and the two editions against each other
 
 Numbers are Python's, lists are lists of pairs; nothing here follows the Rust or the port.
 """
@@ -100,6 +100,12 @@ def check_identity(identity):
             raise Refused(13)
 
 
+def check_flag(older, large):
+    """In the older edition the bit of the large file flag is reserved."""
+    if older and large:
+        raise Refused(15)
+
+
 def check_requests(requests):
     """Each request in its turn. Of those that are empty the first (0, 0) is fine, wherever it stands."""
     metadata = [place for place, request in enumerate(requests) if request == (0, 0)]
@@ -114,23 +120,28 @@ def header_length(i, q):
     return 4 + 2 * i + q
 
 
-def packet(identity, large, start, end, requests):
+def version(older):
+    return '000' if older else '001'
+
+
+def packet(identity, older, large, start, end, requests):
     """The octets of one PDU."""
     i, q, source, number, destination = identity
     f = field(large)
     data = bytes([8]) + b''.join(n.to_bytes(f, 'big') for pair in [(start, end), *requests] for n in pair)
-    octet0 = int('001' + '0' + '1' + '0' + '0' + '01'[large], 2)
+    octet0 = int(version(older) + '0' + '1' + '0' + '0' + '01'[large], 2)
     octet3 = int('0' + f'{i - 1:03b}' + '0' + f'{q - 1:03b}', 2)
     return (bytes([octet0]) + len(data).to_bytes(2, 'big') + bytes([octet3])
             + source.to_bytes(i, 'big') + number.to_bytes(q, 'big') + destination.to_bytes(i, 'big') + data)
 
 
-def write(identity, large, start, end, length, flat):
+def write(identity, older, large, start, end, length, flat):
     """One PDU into a buffer of that length, its requests a flat list."""
     if len(flat) % 2 or len(flat) > 2 * 4096:
         raise Refused(10)
     requests = list(zip(flat[::2], flat[1::2]))
     check_identity(identity)
+    check_flag(older, large)
     if start > end:
         raise Refused(18)
     check_requests(requests)
@@ -141,15 +152,17 @@ def write(identity, large, start, end, length, flat):
         raise Refused(14)
     if length != total:
         raise Refused(6, total, length)
-    return packet(identity, large, start, end, requests)
+    return packet(identity, older, large, start, end, requests)
 
 
-def read(octets):
-    """What a packet says: identity, large, start, end, requests."""
+def read(octets, older):
+    """What a packet of that edition says: identity, large, start, end, requests."""
     if len(octets) < 4:
         raise Refused(16)
     first, third = f'{octets[0]:08b}', f'{octets[3]:08b}'
-    if first[:7] != '001' + '0' + '1' + '0' + '0' or third[0] != '0' or third[4] != '0':
+    if first[:7] != version(older) + '0' + '1' + '0' + '0' or third[0] != '0' or third[4] != '0':
+        raise Refused(15)
+    if older and first[7] != '0':
         raise Refused(15)
     large = first[7] == '1'
     i, q = int(third[1:4], 2) + 1, int(third[5:], 2) + 1
@@ -196,6 +209,7 @@ def choice(word, no, yes):
 class Console:
     def __init__(self):
         self.begin(False, 4096)
+        self.older = False  # the link's edition, which no `new` changes
 
     def begin(self, narrow, ranges):
         self.memory = [0] * MEMORY
@@ -379,6 +393,7 @@ class Console:
     def nak(self, identity, large, largest, cursor, budget, length):
         pairs = self.record()
         check_identity(identity)
+        check_flag(self.older, large)
         f = field(large)
         fixed = header_length(*identity[:2]) + 1 + 2 * f
         if largest > 4096 or largest < fixed + 2 * f:
@@ -399,7 +414,7 @@ class Console:
             start = 0 if cursor == 0 else entries[cursor - 1][1]
             cursor += len(taken)
             end = self.progress if cursor == len(entries) else taken[-1][1]
-            sent.append(packet(identity, large, start, end, taken))
+            sent.append(packet(identity, self.older, large, start, end, taken))
         return [f'pdu {pdu.hex()}' for pdu in sent] + [f'sent {len(sent)} {sum(map(len, sent))} {cursor}']
 
     # The console's words.
@@ -442,6 +457,13 @@ class Console:
             narrow, ranges = choice(rest[0], 'wide', 'narrow'), number(rest[1], 4096)
             self.begin(narrow, ranges)
             return 'ok'
+        if name == 'link':
+            need(2)
+            older = choice(rest[0], 'newer', 'older')
+            if rest[1] != 'plain':
+                raise Malformed
+            self.older = older
+            return 'ok'
         if name == 'show':
             need(0)
             return self.show()
@@ -475,13 +497,13 @@ class Console:
             identity, large = [number(word) for word in rest[:5]], choice(rest[5], 'normal', 'large')
             start, end, length = number(rest[6]), number(rest[7]), number(rest[8], BUFFER)
             flat = [number(word) for word in rest[9:]]
-            return 'pdu ' + write(identity, large, start, end, length, flat).hex()
+            return 'pdu ' + write(identity, self.older, large, start, end, length, flat).hex()
         if name == 'read':
             if len(rest) > 1 or rest and not IS_OCTETS(rest[0]):
                 raise Malformed
-            identity, large, start, end, requests = read(bytes.fromhex(rest[0] if rest else ''))
+            identity, large, start, end, requests = read(bytes.fromhex(rest[0] if rest else ''), self.older)
             numbers = [start, end] + [n for pair in requests for n in pair]
-            return ' '.join(['nak', *map(str, identity), 'large' if large else 'normal', *map(str, numbers)])
+            return ' '.join(['nak', *map(str, identity), 'large' if large else 'normal', 'plain', *map(str, numbers)])
         if name == 'nak':
             need(10)
             identity, large = [number(word) for word in rest[:5]], choice(rest[5], 'normal', 'large')
@@ -522,7 +544,8 @@ def answers(script):
             yield at, answer
 
 
-# Sets of offsets, one by one, against the algebra above; words of letters against the checks of a PDU's requests.
+# Sets of offsets, one by one, against the algebra above; words of letters against the checks of a PDU's requests; the octets of one
+# edition against the other.
 
 def offsets(pairs):
     return {x for s, e in pairs for x in range(s, e)}
@@ -663,7 +686,7 @@ class History:
     def asked(self):
         """The ranges that one full sequence asks for."""
         pdus = self.console.line(1, 'nak 1 1 1 7 2 normal 32 0 16 512')[:-1]
-        requests = [request for pdu in pdus for request in read(bytes.fromhex(pdu.split(' ')[1]))[4]]
+        requests = [request for pdu in pdus for request in read(bytes.fromhex(pdu.split(' ')[1]), False)[4]]
         return [request for request in requests if request != (0, 0)]
 
 
@@ -703,11 +726,11 @@ def refused_of_letters(word):
     return {'': None, 'r': 3}.get(word[fine:fine + 1], 2)
 
 
-def round_trip(large, requests):
+def round_trip(older, large, requests):
     """A PDU of these requests written and read: the requests that were read, and the number that both refuse it with."""
     identity, flat = [1, 1, 1, 7, 2], [n for pair in requests for n in pair]
-    octets, numbers = packet(identity, large, 0, 9, requests), []
-    for call, args in ((write, (identity, large, 0, 9, len(octets), flat)), (read, (octets,))):
+    octets, numbers = packet(identity, older, large, 0, 9, requests), []
+    for call, args in ((write, (identity, older, large, 0, 9, len(octets), flat)), (read, (octets, older))):
         try:
             said = call(*args)
             assert call is read or said == octets, requests
@@ -717,6 +740,43 @@ def round_trip(large, requests):
             numbers.append(refusal.words[0])
     assert numbers[0] == numbers[1], requests
     return said and said[4], numbers[0]
+
+
+def refusal(call, *args):
+    """The words of a call's refusal; None where it accepts."""
+    try:
+        call(*args)
+    except Refused as refused:
+        return refused.words
+
+
+def editions(rng):
+    """C-20 said of octets: what one edition writes it reads, and the other refuses with 15, whatever the identity, flag and requests; the
+    older packet is the newer one with 08 for 28 in front; of the 256 first octets the newer edition takes 28 and 29, the older 08."""
+    done = 0
+    for i, q, n in ((i, q, n) for i in range(1, 9) for q in range(1, 9) for n in range(4)):
+        identity = [i, q, *(rng.choice((0, 1, 256**length - 1, rng.randrange(256**length))) for length in (i, q, i))]
+        for older, large in ((False, False), (False, True), (True, False), (True, True)):
+            top = TOP if large else NARROW
+            starts = [rng.choice((1, rng.randrange(1, top))) for _ in range(n + 1)]
+            start, end, *flat = (x for s in starts for x in (s, rng.choice((s + 1, top))))
+            total = 5 + 2 * i + q + (16 if large else 8) * (n + 1)
+            said = identity, older, large, start, end, total, flat
+            if older and large:
+                assert refusal(write, *said) == [15], said
+                continue
+            octets = write(*said)
+            assert octets[0] == {(False, False): 0x28, (False, True): 0x29, (True, False): 0x08}[older, large], said
+            assert large or octets[1:] == write(identity, not older, *said[2:])[1:], said
+            assert read(octets, older) == (identity, large, start, end, list(zip(flat[::2], flat[1::2]))), said
+            assert refusal(read, octets, not older) == [15], said
+            done += 1
+    # Scope (0, 0) and, in fields of 4 octets, the requests (0, 0), (0, 1), (0, 2); of 8 octets, (1, 2).
+    behind = bytes.fromhex('002100010702' + '08' + '00' * 16 + '0000000000000001' + '0000000000000002')
+    for older, taken in ((False, (0x28, 0x29)), (True, (0x08,))):
+        assert [first for first in range(256) if refusal(read, bytes([first]) + behind, older) is None] == list(taken)
+        assert {*(str(refusal(read, bytes([first]) + behind, older)) for first in range(256))} == {'None', '[15]'}
+    return done
 
 
 def self_test():
@@ -769,12 +829,13 @@ def self_test():
     done = sum(history(rng) for _ in range(400))
     print(f'self-test: 400 histories agree with the sets of octets kept, in {done} answers')
     letters, done = {'g': (3, 9), 'm': (0, 0), 'e': (5, 5), 'r': (9, 4)}, 0
-    for n, large in itertools.product(range(7), (False, True)):
+    for n, (older, large) in itertools.product(range(7), ((False, False), (False, True), (True, False))):
         for word in map(''.join, itertools.product(letters, repeat=n)):
             requests, refused = [letters[letter] for letter in word], refused_of_letters(word)
-            assert round_trip(large, requests) == (None if refused else requests, refused), word
+            assert round_trip(older, large, requests) == (None if refused else requests, refused), word
             done += 1
     print(f'self-test: {done} PDUs are written and read as words of letters say, each request in its place')
+    print(f'self-test: {editions(random.Random("editions"))} PDUs of one edition are refused under the other with 15')
 
 
 def main():

@@ -11,7 +11,7 @@ import random
 
 import model
 import scripts
-from scripts import FLAGS, NARROW, WIDTHS, octets_of, set_list, spans, words, written_and_read
+from scripts import EDITIONS, FLAGS, FORMS, NARROW, WIDTHS, link as set_link, octets_of, set_list, spans, words, written_and_read
 
 CRATE = os.path.join(os.path.dirname(os.path.dirname(os.path.abspath(__file__))), 'crates', 'pusmarke')
 SCRIPT, ANSWERS = os.path.join(CRATE, 'data', 'sample.script'), os.path.join(CRATE, 'stdout')
@@ -19,6 +19,8 @@ SCRIPT, ANSWERS = os.path.join(CRATE, 'data', 'sample.script'), os.path.join(CRA
 # Document 01's example packet, as document 01 prints it.
 EXAMPLE = ('28 00 19 00 01 07 02 08 00 00 00 00 00 00 03 E8 00 00 00 00 00 00 00 00 00 00 00 64 00 00 00 C8'
            .replace(' ', '').lower())
+# The same of the older edition: the version bits are 000, all else is alike.
+OLDER = '08' + EXAMPLE[2:]
 
 W = [(10, 20), (30, 40)]
 
@@ -144,6 +146,28 @@ SEQUENCE_EXAMPLES = [
     'nak 1 1 1 7 2 normal 24 0 1 24', 'nak 1 1 1 7 2 normal 24 1 1 24',
 ]
 
+WRITE_EXAMPLE = 'write 1 1 1 7 2 normal 0 1000 32 0 0 100 200'
+LINK_EXAMPLES = [
+    '# Document 02, C-20: document 01\'s example packet of both editions, each read under both; a large flag is 15 under the older one.',
+    'link newer plain', WRITE_EXAMPLE, 'link older plain', WRITE_EXAMPLE, words('read', OLDER), words('read', EXAMPLE), 'link newer plain',
+    words('read', EXAMPLE), words('read', OLDER), 'write 1 1 1 7 2 large 0 1000 56 0 0 100 200', 'link older plain',
+    'write 1 1 1 7 2 large 0 1000 56 0 0 100 200', '# Behind 10 and 13, before 18, 3, 2, 14 and 6; not asked of the normal flag.',
+    'write 1 1 1 7 2 large 0 1000 40 100 200 300', 'write 0 1 1 7 2 large 0 1000 40 100 200', 'write 1 1 1 256 2 large 1000 0 40 100 200',
+    'write 1 1 1 7 2 large 1000 0 40 100 200', 'write 1 1 1 7 2 large 0 1000 40 200 100', 'write 1 1 1 7 2 large 0 1000 40 5 5',
+    'write 1 1 1 7 2 large 0 1000 40 100 4294967296', words('write 1 1 1 7 2 large 0 1000 4104', *[1, 2] * 255), 'write 1 1 1 7 2 large 0 1000 39 100 200',
+    'write 1 1 1 7 2 normal 1000 0 24 100 200', 'write 1 1 1 7 2 normal 0 1000 24 100 4294967296', 'write 1 1 1 7 2 normal 0 1000 23 100 200',
+    '# The sequence: behind 10, 8, 12 and 13, before 14, 11, 20 and 6.',
+    'new wide 8', *set_list([(0, 1), (2, 3), (4, 5)], 10, 'known'), 'nak 1 1 1 7 2 normal 24 0 16 384', 'nak 1 1 1 7 2 large 40 0 16 640',
+    'nak 0 1 1 7 2 large 40 0 16 640', 'nak 1 1 1 7 2 large 39 0 16 640', 'nak 1 1 1 7 2 large 4097 0 16 640', 'nak 1 1 1 7 2 large 40 4 16 640',
+    'nak 1 1 1 7 2 large 40 0 17 640', 'nak 1 1 1 7 2 large 40 0 16 639', *set_list([(2, 3), (0, 1)], 10, 'known'), 'nak 1 1 1 7 2 large 40 0 16 640',
+    *set_list([(0, 1), (2, 11)], 10, 'known'), 'nak 1 1 1 7 2 large 40 0 16 640', 'lend 7', 'nak 1 1 1 7 2 large 40 0 16 640', 'lend 16',
+    *set_list([(0, 2**32)], 2**32, 'known'), 'nak 1 1 1 7 2 large 40 0 1 40', 'nak 1 1 1 7 2 normal 24 0 1 24', 'link newer plain',
+    'nak 1 1 1 7 2 large 40 0 1 40', '# A fresh reception keeps the link, and so does a link that is an error.',
+    'link older plain', 'new wide 4', WRITE_EXAMPLE, 'new narrow 4', WRITE_EXAMPLE, 'new pairs wide 4096', words('read', OLDER), 'new wide 4097', WRITE_EXAMPLE,
+    'link newer crc', WRITE_EXAMPLE, 'link newer', WRITE_EXAMPLE, 'data 0 9', 'nak 1 1 1 7 2 normal 32 0 1 32', 'link newer plain', 'new wide 4',
+    WRITE_EXAMPLE, 'link older crc', WRITE_EXAMPLE, 'link older', words('read', EXAMPLE),
+]
+
 
 def store(rng):
     """Store calls that reach every answer the Rust can give."""
@@ -233,6 +257,10 @@ def codec(rng):
         packet = octets_of(ident, large, 3, top, requests)
         flat = [n for pair in requests for n in pair]
         out += [words('write', *ident, flag, 3, top, len(packet), *flat), words('read', packet.hex())]
+    out.append('# Identifiers of 0 octets and of 9, with numbers that fit them; numbers one too large.')
+    out += [words('write', *ident, 'normal', 0, 9, length) for *ident, length in (
+        (0, 1, 0, 7, 0, 14), (1, 0, 1, 0, 2, 15), (0, 0, 0, 0, 0, 13), (9, 1, 1, 7, 2, 32), (1, 9, 1, 7, 2, 24), (1, 1, 256, 7, 2, 16),
+        (1, 1, 1, 256, 2, 16), (1, 1, 1, 7, 256, 16), (1, 1, 255, 255, 255, 16))]
     out.append('# Faults of writing and reading, and damaged copies.')
     out += short(scripts.pdus_written, 10, 400) + short(scripts.pdus_read, 16, 400)
     out.append('# Packets of 4,095, 4,096 and 4,097 octets, and more than 4,096 pairs.')
@@ -244,6 +272,38 @@ def codec(rng):
                 words('read', packet.hex())]
     out += [words('write', *ident, 'normal', 0, 9999, 16, *[1, 2] * n) for n in (4096, 4097)]
     return out
+
+
+def link(rng):
+    """The two editions of a link: each packet of one is 15 under the other."""
+    out = [*LINK_EXAMPLES, '# Each first octet under both editions.']
+    for edition in EDITIONS:
+        out += [set_link(edition), *(words('read', scripts.fields_of_both(first).hex()) for first in range(256))]
+    out.append('# The older example with every bit of its header turned in its turn, and every shorter part of it.')
+    out.append(set_link('older'))
+    for bit in range(8 * 8):
+        damaged = bytearray.fromhex(OLDER)
+        damaged[bit // 8] ^= 0x80 >> bit % 8
+        out.append(words('read', damaged.hex()))
+    out += [words('read', OLDER[:2 * n]).strip() for n in range(len(OLDER) // 2)]
+    out.append('# Every identifier length, written and read under the older edition, and read under the newer one.')
+    packets = []
+    for i, q in itertools.product(range(1, 9), repeat=2):
+        ident = [i, q, *[rng.choice((0, 256**n - 1, rng.randrange(256**n), rng.randrange(256**n))) for n in (i, q, i)]]
+        requests = rng.choice(([], [(0, 0)], [(0, 0), (100, 200)], [(100, 200), (0, 0)], [(5, NARROW)]))
+        packets += written_and_read(ident, 'normal', 3, NARROW, requests, edition='older')
+    out += [*packets, set_link('newer'), *packets[1::2]]
+    out.append('# The same lines under both editions, with the faults of writing, reading and the sequence alone and together.')
+    for generator, blocks in ((scripts.link_writes, 5), (scripts.link_reads, 12), (scripts.link_sequences, 14)):
+        for block in itertools.islice(scripts.blocks(generator, 'sample'), blocks):
+            # Of the long packets those that one edition refuses for their length, with identifiers of one octet.
+            out += [line for line in block if len(line) <= 2400 or line[5:7] in ('28', '29', '08') and line[11:13] == '00']
+    out.append('# What leaves the link as it was, and lines that are no link; histories.')
+    for block in rng.sample(list(scripts.link_kept(rng)), 60):
+        out += block
+    for block in scripts.link_words(rng):
+        out += block
+    return out + short(scripts.link_history, 8, 400)
 
 
 def reception(rng):
@@ -322,10 +382,11 @@ def console(rng):
 
 REACHED = {
     'store': {**scripts.RUST_REACH, **{name: scripts.REACH[name] - {8, 10} for name in ('insert', 'remove')}},
-    'codec': {name: scripts.REACH[name] for name in ('write', 'read')},
+    'codec': {name: scripts.REACH[name] - scripts.LINKED_KINDS[name] for name in ('write', 'read')},
+    'link': scripts.LINKED_KINDS,
     'reception': {**{name: scripts.REACH[name] for name in ('data', 'metadata', 'eof')}, 'nak': scripts.UNEQUAL},
     'held': {name: scripts.REACH[name] for name in ('held', 'missing', 'map')},
-    'sequence': {'nak': scripts.REACH['nak'] - scripts.UNEQUAL - {8, 10, 12}},
+    'sequence': {'nak': scripts.REACH['nak'] - scripts.UNEQUAL - scripts.LINKED_KINDS['nak'] - {8, 10, 12}},
     'console': {**{name: {10} for name in ('add', 'coalesce', 'within', 'octets')}, 'insert': {8, 10}, 'remove': {8, 10},
                 'nak': {8, 10, 12}, 'data': {8, 10, 12}, 'metadata': {8, 10, 12, 19}, 'eof': {8, 10, 12}},
 }
@@ -368,7 +429,7 @@ def make(rust, run):
     """Writes the sample; says of each file whether it is as it was. False if something is amiss."""
     amiss, script = [], []
     # The console as it starts comes first; its last line goes without a newline.
-    for maker in (console, store, codec, reception, held, sequence):
+    for maker in (console, store, codec, link, reception, held, sequence):
         name = maker.__name__
         lines = maker(random.Random(f'sample {name}'))
         if maker is store:
@@ -376,8 +437,11 @@ def make(rust, run):
             if from_rust is None:
                 amiss.append('store: the Rust and the model part')
         if maker is codec and flat(model.answers(scripts.text(lines)))[:2] != [
-                f'pdu {EXAMPLE}', 'nak 1 1 1 7 2 normal 0 1000 0 0 100 200']:
+                f'pdu {EXAMPLE}', 'nak 1 1 1 7 2 normal plain 0 1000 0 0 100 200']:
             amiss.append('codec: not the octets of document 01')
+        if maker is link and flat(model.answers(scripts.text(lines)))[:6] != [
+                'ok', f'pdu {EXAMPLE}', 'ok', f'pdu {OLDER}', 'nak 1 1 1 7 2 normal plain 0 1000 0 0 100 200', 'refused 15']:
+            amiss.append('link: not the octets of document 01 and of the older edition')
         amiss += [f'{name} does not reach: {what}' for what in unreached(name, lines)]
         script += [f'# Part {name}.', *lines]
     script = scripts.text(script + ['# The last line has no newline.', 'show'])[:-1]

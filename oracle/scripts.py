@@ -5,7 +5,8 @@
     scripts.py NAME [SEED [BLOCKS]]      prints blocks of that generator
 
 A generator yields blocks: lists of lines that begin with `new` and need nothing before them (the first
-of `nonsense` begins with the console as it starts).
+of `nonsense` begins with the console as it starts). A block that sets the link, which `new` leaves as it
+is, ends with `link newer plain`.
 Those of STORE hold store calls alone, which the Rust can judge; those of REST the others too.
 An exhaustive generator ends; the others go on for ever and are the same for the same seed.
 """
@@ -19,6 +20,9 @@ TOP = 2**64 - 1
 NARROW = 2**32 - 1
 FLAGS = ('normal', 'large')
 WIDTHS = ('wide', 'narrow')
+EDITIONS = ('newer', 'older')
+# What can be written: under the older edition there is no large file flag.
+FORMS = (('newer', 'normal'), ('newer', 'large'), ('older', 'normal'))
 
 # Capacities for which the Rust's fixed lists are built (store/src/main.rs).
 FIXED = [*range(21), 24, 31, 32, 33, 64, 100, 128, 256, 512, 1000, 1024, 2048, 4095, 4096]
@@ -28,6 +32,10 @@ EDGE = [0, 1, 2, 2**31 - 1, 2**31, NARROW - 2, NARROW - 1, NARROW, NARROW + 1, N
 
 def words(*parts):
     return ' '.join(map(str, parts))
+
+
+def link(edition):
+    return words('link', edition, 'plain')
 
 
 def set_list(pairs, progress=0, mark='missing', size='open'):
@@ -845,14 +853,15 @@ def identity(rng, good=True):
     return [i, q, *numbers]
 
 
-def octets_of(ident, large, start, end, requests, code=8):
-    """A packet's octets, good or not, so that readers can be fed without a writer."""
+def octets_of(ident, large, start, end, requests, edition='newer'):
+    """A packet's octets, good or not, so that readers can be fed without a writer. Of the older edition with the large flag it is
+    what a writer would make that takes the reserved bit for the flag."""
     i, q, source, number, destination = ident
     f = 8 if large else 4
-    out = bytearray([0x28 | large, 0, 0, (i - 1) << 4 | (q - 1)])
+    out = bytearray([(0x28 if edition == 'newer' else 0x08) | large, 0, 0, (i - 1) << 4 | (q - 1)])
     out += source.to_bytes(i, 'big') + number.to_bytes(q, 'big') + destination.to_bytes(i, 'big')
     head = len(out)
-    out.append(code)
+    out.append(8)
     for n in [start, end] + [n for pair in requests for n in pair]:
         out += n.to_bytes(f, 'big')
     out[1:3] = (len(out) - head & 0xffff).to_bytes(2, 'big')
@@ -871,32 +880,31 @@ def some_requests(rng, large, n):
 
 
 def pdus_lengths(rng):
-    """One packet written and read for each of the 64 pairs of identifier lengths, both flags, with and
-    without a metadata request, first and last, and each buffer one short and one long: pdu, nak, 6."""
-    for i, q, flag in itertools.product(range(1, 9), range(1, 9), FLAGS):
+    """One packet written and read for each of the 64 pairs of identifier lengths, both flags of the newer edition and the older
+    edition, with and without a metadata request, first and last, and each buffer one short and one long; read under the other
+    edition too: pdu, nak, 6, 15."""
+    for i, q, (edition, flag) in itertools.product(range(1, 9), range(1, 9), FORMS):
         large = flag == 'large'
-        block = ['new wide 0']
+        block = ['new wide 0', link(edition)]
         for requests in ([], [(0, 0)], [(0, 0), (100, 200)], [(100, 200), (0, 0)], [(5, 2**31)]):
             ident = [i, q, *[rng.randrange(256**length) for length in (i, q, i)]]
-            packet = octets_of(ident, large, 3, 1000, requests)
+            packet = octets_of(ident, large, 3, 1000, requests, edition)
             flat = [n for pair in requests for n in pair]
             for length in (len(packet) - 1, len(packet) + 1, len(packet)):
                 block.append(words('write', *ident, flag, 3, 1000, length, *flat))
             block.append(words('read', packet.hex()))
-        yield block
+        yield [*block, link(EDITIONS[edition == 'newer']), block[-1], link('newer')]
 
 
 def pdus_limits(rng):
-    """Packets of every total from 4,089 to 4,104 octets, written and read, both flags: pdu, nak, 14."""
-    for flag, q, extra in itertools.product(FLAGS, range(1, 9), (0, 1)):
+    """Packets of every total from 4,089 to 4,104 octets, written and read, both flags and the older edition: pdu, nak, 14."""
+    for (edition, flag), q, extra in itertools.product(FORMS, range(1, 9), (0, 1)):
         large = flag == 'large'
         f = 8 if large else 4
         for i in (1, 5) if large else (1,):
             ident = [i, q, 1, 7, 2]
             requests = [(2 * s, 2 * s + 1) for s in range((4096 - (5 + 2 * i + q + 2 * f)) // (2 * f) + extra)]
-            packet = octets_of(ident, large, 0, 9999, requests)
-            flat = [n for pair in requests for n in pair]
-            yield ['new wide 0', words('write', *ident, flag, 0, 9999, len(packet), *flat), words('read', packet.hex())]
+            yield ['new wide 0', link(edition), *written_and_read(ident, flag, 0, 9999, requests, edition=edition), link('newer')]
 
 
 # A letter for each kind of request: good, metadata, another empty one, reversed.
@@ -914,9 +922,10 @@ def request_of(rng, letter, large):
     return (low, high) if letter == 'g' else (high, low)
 
 
-def written_and_read(ident, flag, start, end, requests, more=0):
-    """Lines that write a PDU of these requests, into a buffer of its length and some more, and that read its octets."""
-    packet = octets_of(ident, flag == 'large', start, end, requests)
+def written_and_read(ident, flag, start, end, requests, more=0, edition='newer'):
+    """Lines that write a PDU of these requests, into a buffer of its length and some more, and that read its octets, those of that
+    edition."""
+    packet = octets_of(ident, flag == 'large', start, end, requests, edition)
     flat = [n for pair in requests for n in pair]
     return [words('write', *ident, flag, start, end, len(packet) + more, *flat), words('read', packet.hex())]
 
@@ -932,36 +941,39 @@ def metadata_words():
 
 def pdus_metadata(rng):
     """One PDU written and read for each order of good, metadata, other empty and reversed requests, up to four of them and some
-    longer, both flags (C-12): (0, 0) first, in the middle, last, alone, twice, with 2 and 3 before and behind it: pdu, nak, 2, 3."""
+    longer, both flags and the older edition (C-12): (0, 0) first, in the middle, last, alone, twice, with 2 and 3 before and behind
+    it: pdu, nak, 2, 3."""
     for word in metadata_words():
         block = ['new wide 0']
-        for flag in FLAGS:
+        for edition, flag in FORMS:
             requests = [request_of(rng, letter, flag == 'large') for letter in word]
-            block += written_and_read([1, 1, 1, 7, 2], flag, 0, 1000, requests)
-        yield block
+            block += [link(edition), *written_and_read([1, 1, 1, 7, 2], flag, 0, 1000, requests, edition=edition)]
+        yield [*block, link('newer')]
 
 
 def pdus_metadata_checks(rng):
     """A second (0, 0) before 7, 14 and 6, and a single one where they are the answer; PDUs of as many requests as 4,096 octets hold,
-    and of one more, with (0, 0) last, and first and last, both flags (C-12): pdu, nak, 2, 6, 7, 14."""
+    and of one more, with (0, 0) last, and first and last, both flags and the older edition (C-12): pdu, nak, 2, 6, 7, 14."""
     above, last, twice = (1, NARROW + 1), [(1, 2), (0, 0)], [(0, 0), (1, 2), (0, 0)]
     for requests, more in itertools.product(([above, *last], [*last, above], [above, *twice], [*twice, above], [(0, 0), above, (0, 0)]), (0, 1)):
         flat = [n for pair in requests for n in pair]
-        yield ['new wide 0', words('write', 1, 1, 1, 7, 2, 'normal', 3, 4, 16 + 8 * len(requests) + more, *flat),
-               *written_and_read([1, 1, 1, 7, 2], 'large', 3, 4, requests, more)]
-    for (flag, fit), extra in itertools.product((('normal', 510), ('large', 254)), (0, 1)):
-        n = fit + extra
+        normal = words('write', 1, 1, 1, 7, 2, 'normal', 3, 4, 16 + 8 * len(requests) + more, *flat)
+        yield ['new wide 0', normal, *written_and_read([1, 1, 1, 7, 2], 'large', 3, 4, requests, more), link('older'), normal, link('newer')]
+    for (edition, flag), extra in itertools.product(FORMS, (0, 1)):
+        n = {'normal': 510, 'large': 254}[flag] + extra
         for places in ((n - 1,), (0, n - 1)):
             requests = [(0, 0) if place in places else (2 * place, 2 * place + 1) for place in range(n)]
-            yield ['new wide 0', *written_and_read([1, 1, 1, 7, 2], flag, 0, 9999, requests)]
+            yield ['new wide 0', link(edition), *written_and_read([1, 1, 1, 7, 2], flag, 0, 9999, requests, edition=edition), link('newer')]
 
 
 def pdus_written(rng):
-    """write with every fault alone and with others: 10, 13, 18, 3, 2, 7, 14, 6."""
+    """write with every fault alone and with others, both editions: 10, 13, 15, 18, 3, 2, 7, 14, 6."""
     while True:
         block = ['new wide 0']
         for _ in range(40):
             large = rng.random() < 0.5
+            if rng.random() < 0.4:
+                block.append(link(rng.choice(('newer', 'newer', 'older'))))
             ident = identity(rng, rng.random() < 0.9)
             f = 8 if large else 4
             head = 5 + 2 * ident[0] + ident[1] + 2 * f
@@ -987,20 +999,22 @@ def pdus_written(rng):
                 flat.pop()
             length = max(0, min(66000, head + len(flat) // 2 * 2 * f + rng.choice((0,) * 12 + (-1, 1, 8, -8, 500))))
             block.append(words('write', *ident, FLAGS[large], start, end, length, *flat))
-        yield block
+        yield [*block, link('newer')]
 
 
 def pdus_read(rng):
     """read of good packets, of one to eight octets, and of damaged copies: a bit turned, octets cut or added, the length
-    field, directive code, scope, requests and flags changed, packets above 4,096 octets: nak, 16, 15,
-    17, 18, 3, 2, 14."""
+    field, directive code, scope, requests and flags changed, packets above 4,096 octets; of both editions, mostly under their
+    own: nak, 16, 15, 17, 18, 3, 2, 14."""
     while True:
         block = ['new wide 0', 'read']
         for n in range(1, 9):
-            short = [rng.choice((0x28, 0x29, 0x68)), 0, rng.choice((0, 1)), *[rng.choice((0, 0, 8, 0x80))] * 5]
-            block.append(words('read', bytes(short[:n]).hex()))
+            short = [rng.choice((0x28, 0x29, 0x68, 0x08)), 0, rng.choice((0, 1)), *[rng.choice((0, 0, 8, 0x80))] * 5]
+            block += [link(rng.choice(EDITIONS)), words('read', bytes(short[:n]).hex())]
         for _ in range(40):
-            large = rng.random() < 0.5
+            edition, flag = rng.choice((*FORMS, FORMS[2]))
+            large = flag == 'large'
+            block.append(link(edition if rng.random() < 0.9 else rng.choice(EDITIONS)))
             ident = identity(rng)
             n = rng.choice((0, 1, 2, 3, rng.randint(0, 30)))
             if rng.random() < 0.05:
@@ -1011,7 +1025,7 @@ def pdus_read(rng):
             start, end = sorted((rng.randint(0, 999), rng.randint(0, 2000)))
             if rng.random() < 0.1:
                 start = end
-            packet = octets_of(ident, large, start, end, requests)
+            packet = octets_of(ident, large, start, end, requests, edition)
             head = 4 + 2 * ident[0] + ident[1]
             f = 8 if large else 4
             fault = rng.randrange(14)
@@ -1032,23 +1046,24 @@ def pdus_read(rng):
             elif fault == 6:
                 packet[1:3] = rng.randrange(65536).to_bytes(2, 'big')
             elif fault == 7:
-                packet = octets_of(ident, large, end + 1, end, requests)
+                packet = octets_of(ident, large, end + 1, end, requests, edition)
             elif fault == 8 and requests:
                 at = rng.randrange(len(requests))
                 requests[at] = rng.choice(((7, 7), (9, 4), (0, 0), (2**32 - 1, 0)))
-                packet = octets_of(ident, large, start, end, requests)
+                packet = octets_of(ident, large, start, end, requests, edition)
             elif fault == 9:
                 packet = packet[:4] + bytes(rng.randrange(256) for _ in range(rng.randint(0, 30)))
             block.append(words('read', packet.hex()))
-        yield block
+        yield [*block, link('newer')]
 
 
 def sequences_runs(rng):
-    """Whole sequences from cursor 0 in calls of budgets 0 to 16, both flags, every identifier length,
+    """Whole sequences from cursor 0 in calls of budgets 0 to 16, both flags and the older edition, every identifier length,
     metadata known and missing, P from room for one request to 4,096: pdu, sent."""
     while True:
-        large = rng.random() < 0.5
-        flag, f = FLAGS[large], 8 if large else 4
+        edition, flag = rng.choice(FORMS)
+        large = flag == 'large'
+        f = 8 if large else 4
         missing = rng.random() < 0.15
         top = TOP if large else NARROW
         n = rng.choice((0, 1, 2, 3, 7, 20, 90, 300, 4096))
@@ -1064,7 +1079,7 @@ def sequences_runs(rng):
         k = (largest - fixed) // (2 * f)
         entries = len(pairs) + missing
         block = [words('new', rng.choice(('wide', 'narrow')) if top == NARROW else 'wide', 4096)]
-        block += set_list(pairs, progress, 'missing' if missing else 'known')
+        block += [link(edition), *set_list(pairs, progress, 'missing' if missing else 'known')]
         cursor = 0
         for _ in range(400):
             budget = rng.choice((0, 1, 2, 3, 16, 16, rng.randint(0, 16)))
@@ -1072,18 +1087,20 @@ def sequences_runs(rng):
             cursor = min(entries, cursor + budget * k)
             if cursor == entries and rng.random() < 0.7:
                 break
-        yield block
+        yield [*block, link('newer')]
 
 
 def sequences_any(rng):
     """Single calls of the sequence with any cursor, on and off the grid and past the end, budgets 0 to
     17, P from too small to above 4,096, short buffers, bad identities, numbers too large for the
-    flag: sent, 7, 11, 13, 14, 20, 6."""
+    flag, both editions: sent, 7, 11, 13, 14, 15, 20, 6."""
     while True:
         block = ['new wide 64']
         for _ in range(15):
             large = rng.random() < 0.5
             flag, f = FLAGS[large], 8 if large else 4
+            if rng.random() < 0.4:
+                block.append(link(rng.choice(('newer', 'newer', 'older'))))
             missing = rng.random() < 0.3
             low = rng.choice((0, 0, 0, 0, NARROW - 8, 2**40))
             pairs = ascending(rng, rng.randint(0, 9), low, low + 40)
@@ -1105,7 +1122,163 @@ def sequences_any(rng):
                 need = min(66000, min(budget, 16) * largest)
                 length = rng.choice((need, need, need, min(66000, need + 9), max(0, need - 1), 0))
                 block.append(words('nak', *ident, flag, min(largest, TOP), cursor, budget, length))
-        yield block
+        yield [*block, link('newer')]
+
+
+# The link: which edition is written and read (C-20).
+
+def under_both(rng, lines):
+    """Each of these lines under both editions, now the one first and now the other."""
+    out = []
+    for line in lines:
+        for edition in rng.sample(EDITIONS, 2):
+            out += [link(edition), line]
+    return out
+
+
+def fields_of_both(first):
+    """A packet with that first octet whose data field reads with fields of 4 octets and of 8: scope (0, 0), and requests (0, 0), (0, 1)
+    and (0, 2), or (1, 2)."""
+    return bytes([first]) + bytes.fromhex('00210001070208' + '00' * 16 + '00000000000000010000000000000002')
+
+
+def link_octets(rng):
+    """read of packets with each of the 256 first octets, under both editions: one that is fine for either length of the fields; then
+    the same with another directive code, another length field, a fixed bit of octet 3 turned, of 3 octets: nak, 15, 16, 17."""
+    for place, octet in ((3, 0x00), (7, 0x09), (2, 0x22), (3, 0x08), (3, 0x80), (3, None)):
+        for at in range(0, 256, 32):
+            packets = [fields_of_both(first) for first in range(at, at + 32)]
+            changed = [packet[:place] + (b'' if octet is None else bytes([octet]) + packet[place + 1:]) for packet in packets]
+            yield ['new wide 0', *under_both(rng, [words('read', packet.hex()) for packet in changed]), link('newer')]
+
+
+def link_writes(rng):
+    """The same PDU written under both editions, both flags, with each of the other faults of writing alone and with others (a list of
+    odd length, an identity that is none, a scope and requests that are reversed or empty, numbers too large, too many requests, a
+    buffer one short): pdu, 10, 13, 15, 18, 3, 2, 7, 14, 6, and 15 behind 10 and 13 and before all others."""
+    lists = [[100, 200], [], [0, 0, 100, 200], [5, 5], [9, 4], [1, NARROW + 1], [1, 2] * 511]
+    idents = [[1, 1, 1, 7, 2], [2, 4, 513, 70000, 7], [1, 9, 1, 7, 2], [1, 1, 1, 256, 2]]
+    choices = idents, ((0, 1000), (3, 2**40), (1000, 0)), lists, (0, 1), (0, 1)
+    # Each fault alone, then all together.
+    sound = [some[0] for some in choices]
+    every = [(flag, *sound[:at], one, *sound[at + 1:]) for flag in FLAGS for at, some in enumerate(choices) for one in some]
+    every += shuffled(rng, FLAGS, *choices)
+    for at in range(0, len(every), 20):
+        lines = []
+        for flag, ident, scope, flat, odd, less in every[at:at + 20]:
+            length = 5 + 2 * ident[0] + ident[1] + (16 if flag == 'large' else 8) * (1 + len(flat) // 2)
+            lines.append(words('write', *ident, flag, *scope, length - less, *flat, *[7] * odd))
+        yield ['new wide 0', *under_both(rng, lines), link('newer')]
+
+
+def link_reads(rng):
+    """Packets of each edition and with either lowest bit read under both editions, sound and with each of the other faults of reading:
+    nak, 15, 16, 17, 18, 3, 2, 14, and 15 before all others but 16 for fewer than four octets."""
+    kinds = ('sound', 'octet 3', 'cut', 'longer', 'length field', 'code', 'half a request', 'scope', 'reversed', 'empty', 'long', 'short')
+    for edition, flag, ident in shuffled(rng, EDITIONS, FLAGS, ([1, 1, 1, 7, 2], [2, 4, 513, 70000, 7], [8, 8, TOP, 0, 1])):
+        lines, large, head = [], flag == 'large', 4 + 2 * ident[0] + ident[1]
+        for kind in kinds:
+            requests = [(100, 200)] * (255 if large else 511) if kind == 'long' else [(0, 0), (100, 200)]
+            if kind in ('reversed', 'empty'):
+                requests.append((9, 4) if kind == 'reversed' else (5, 5))
+            packet = octets_of(ident, large, *((9, 4) if kind == 'scope' else (0, 1000)), requests, edition)
+            if kind == 'octet 3':
+                packet[3] ^= rng.choice((0x80, 0x08))
+            elif kind == 'cut':
+                packet.pop()
+            elif kind == 'longer':
+                packet.append(0)
+            elif kind == 'length field':
+                packet[1:3] = bytes(2)
+            elif kind == 'code':
+                packet[head] = rng.choice((0, 4, 7, 9, 0x88))
+            elif kind == 'half a request':
+                packet = packet[:-4]
+                packet[1:3] = (len(packet) - head).to_bytes(2, 'big')
+            elif kind == 'short':
+                packet = packet[:rng.randint(1, 3)]
+            lines.append(words('read', packet.hex()))
+        yield ['new wide 0', *under_both(rng, lines), link('newer')]
+
+
+def link_sequences(rng):
+    """The same call of the sequence under both editions, both flags, on records that are sound, too large for the normal flag or fail 10,
+    8 or 12, with each fault of the call alone and with others: sent, 10, 8, 12, 13, 15, 14, 7, 11, 20, 6, and 15 behind 10, 8, 12 and 13
+    and before all others."""
+    records = [[*set_list([(5, 9), (20, 30)], 40, 'known')], [*set_list([(0, 40)], 40)], [*set_list([(5, 2**40)], 2**40, 'known')],
+               [*set_list([(20, 30), (5, 9)], 40, 'known')], [*set_list([(5, 9), (20, 30)], 29, 'known')],
+               [*set_list([(5, 9), (20, 30)], 40, 'known'), 'lend 7'], [*set_list([(5, 9), (20, 30)], 40, 'known', 41)]]
+    good, *bad = [1, 1, 1, 7, 2], [0, 1, 1, 7, 2], [1, 1, 256, 7, 2]
+    # Sound, then each fault alone, then all together.
+    calls = [(flag, *call) for flag in FLAGS for call in (
+        (good, 100, 0, 2, 0), (good, 40, 1, 2, 0), *((ident, 100, 0, 2, 0) for ident in bad), (good, 23, 0, 2, 0), (good, 4097, 0, 2, 0),
+        (good, 100, 9, 2, 0), (good, 100, 0, 17, 0), (good, 100, 0, 2, 1))]
+    calls += shuffled(rng, FLAGS, (good, *bad), (23, 40, 100, 4097), (0, 1, 9), (0, 2, 17), (0, 1))
+    for at, record in itertools.product(range(0, len(calls), 20), records):
+        lines = []
+        for flag, ident, largest, cursor, budget, less in calls[at:at + 20]:
+            length = max(0, min(budget, 16) * min(largest, 4096) - less)
+            lines.append(words('nak', *ident, flag, largest, cursor, budget, length))
+        yield ['new wide 4', *record, *under_both(rng, lines), link('newer')]
+
+
+LINKED = ['write 1 1 1 7 2 normal 0 1000 24 100 200', 'write 1 1 1 7 2 large 0 1000 40 100 200',
+          *(words('read', octets_of([1, 1, 1, 7, 2], large, 0, 1000, [(100, 200)], edition).hex())
+            for large, edition in itertools.product((False, True), EDITIONS)),
+          'nak 1 1 1 7 2 normal 64 0 1 64', 'nak 1 1 1 7 2 large 64 0 1 64']
+
+
+def link_kept(rng):
+    """The link stays as it was through `new` of either width and form, through `new` that is an error, through every other command,
+    accepted, refused and in error, and through a `link` that is an error: pdu, nak, sent, 15 under both editions after each."""
+    others = ['new wide 3', 'new narrow 3', 'new pairs wide 4096', 'new pairs narrow 0', 'new wide 4097', 'new', 'lend 4', 'lend 8201',
+              'load 0 missing 0 open', 'poke 0 1 2', 'show', 'slots 4', 'add 1 2', 'add 2 1', 'insert 1 2', 'remove 1 2', 'coalesce', 'within 1 2',
+              'octets normal 8', 'octets large 16', 'data 0 1', 'metadata', 'eof 9', 'held 0 1', 'missing', 'map 3', 'read', 'read 2800', 'read 0800',
+              *LINKED, *NO_LINKS, '', '# link newer plain', '# link older plain']
+    for edition, other in itertools.product(EDITIONS, others):
+        yield ['new wide 4', link(edition), other, *LINKED, 'new narrow 4', *LINKED, link('newer')]
+
+
+NO_LINKS = ['link', 'link newer', 'link older', 'link plain', 'link newer crc', 'link older crc', 'link crc', 'link newer plain plain',
+            'link older plain plain', 'link newer plain crc', 'link plain newer', 'link plain older', 'link old plain', 'link new plain',
+            'link Newer plain', 'link Older plain', 'link newer Plain', 'link older Plain', 'link newer plains', 'link older plai', 'link newe plain',
+            'link newerr plain', 'link oldest plain', 'link 0 plain', 'link 1 0', 'link normal plain', 'link newer normal', 'link older large',
+            'Link older plain', 'links older plain', 'lin older plain', 'link older plain\r', 'link\tolder plain', 'link newer,plain',
+            'link older older', 'link newer older plain', 'link older newer plain']
+
+
+def link_words(rng):
+    """Lines that are no link, each under both editions: errors that change nothing; and links with more spaces: ok."""
+    for edition, line in itertools.product(EDITIONS, (*NO_LINKS, '  link   newer   plain  ', 'link  older plain ', ' link older plain')):
+        yield ['new wide 4', link(edition), line, LINKED[0], LINKED[1], *LINKED[2:4], link('newer')]
+
+
+def link_history(rng):
+    """Long histories of events with sequences, PDUs that are written and read, links and fresh receptions in between: each PDU under the
+    link's edition, each packet read under either."""
+    while True:
+        block, edition = [words('new', rng.choice(WIDTHS), rng.choice((1, 4, 40)))], 'newer'
+        for at in range(60):
+            kind = rng.random()
+            if kind < 0.12:
+                edition = rng.choice(EDITIONS)
+                block.append(link(edition))
+            elif kind < 0.15:
+                block.append(rng.choice(NO_LINKS))
+            elif kind < 0.2:
+                block.append(words('new', rng.choice(WIDTHS), rng.choice((1, 4, 40))))
+            elif kind < 0.27:
+                block.append('metadata')
+            elif kind < 0.3:
+                block.append(words('eof', rng.choice((100, 200))))
+            elif kind < 0.55:
+                block.append(words('data', rng.randint(0, 90), rng.randint(1, 9)))
+            elif kind < 0.75:
+                block.append(words('nak 1 1 1 7 2', FLAGS[rng.random() < 0.3], rng.choice((40, 64, 200)), 0, rng.choice((1, 4, 16)), 3200))
+            else:
+                of, large = edition if rng.random() < 0.7 else rng.choice(EDITIONS), rng.random() < 0.3
+                block += written_and_read(identity(rng), FLAGS[large], 3, 1000, some_requests(rng, large, rng.randint(0, 3)), edition=of)
+        yield [*block, link('newer')]
 
 
 def nonsense(rng):
@@ -1115,7 +1288,8 @@ def nonsense(rng):
     that nothing changed."""
     good = ['new wide 3', 'new pairs wide 3', 'lend 6', 'load 7 known 1 open', 'load 7 known 1 7', 'poke 0 1 2', 'show', 'slots 4',
             'add 1 2', 'insert 1 2', 'remove 1 2', 'coalesce', 'within 1 2', 'octets normal 8', 'data 0 1', 'metadata', 'eof 9',
-            'held 1 2', 'missing', 'map 7', 'write 1 1 1 7 2 normal 0 1000 24 100 200', 'read 2800', 'nak 1 1 1 7 2 normal 32 0 1 32']
+            'held 1 2', 'missing', 'map 7', 'write 1 1 1 7 2 normal 0 1000 24 100 200', 'read 2800', 'nak 1 1 1 7 2 normal 32 0 1 32',
+            'link newer plain', 'link older plain']
     fixed = ['bogus', 'ADD 1 2', 'add', 'add 1', 'add 1 2 3', 'add -1 2', 'add +1 2', 'add 0x1 2', 'add 1. 2',
              'add 18446744073709551615 18446744073709551615', 'add 18446744073709551616 1',
              'add 99999999999999999999 1', 'add 000000000000000000001 2', 'add 00000000000000000001 2',
@@ -1143,7 +1317,8 @@ def nonsense(rng):
              'write 1 1 1 7 2 normal 0 1000 66000', 'write 1 1 1 7 2 odd 0 1000 16', 'write 1 1 1 7 2 normal 0 1000 16 1 x',
              'read 2', 'read 2A', 'read 28 00', 'read zz', 'read 0x28', 'read', 'nak', 'nak 1 1 1 7 2 normal 32 0 1',
              'nak 1 1 1 7 2 normal 32 0 1 66001', 'nak 1 1 1 7 2 normal 32 0 1 66000', 'nak 1 1 1 7 2 x 32 0 1 32',
-             'nak 1 1 1 7 2 normal 32 0 1 32 1', 'ok', 'error 1', 'shows', 'sho', 'add 1 2#', 'add 1 2 #', 'add 1,2',
+             'nak 1 1 1 7 2 normal 32 0 1 32 1', *NO_LINKS, 'write 1 1 1 7 2 normal 0 9 16', '  link   older   plain  ',
+             'write 1 1 1 7 2 normal 0 9 16', *NO_LINKS, 'write 1 1 1 7 2 normal 0 9 16', 'link newer plain', 'ok', 'error 1', 'shows', 'sho', 'add 1 2#', 'add 1 2 #', 'add 1,2',
              '\xe9', 'add \xb2 3', 'add 1\xa02', '\x00', 'show\x00', 'add 1 2\x0b', '\x0c']
     yield ['show', 'data 5 1', 'show', 'slots 4', 'new wide 3', *fixed, 'show']
     # Line lengths of 65,535 and 65,536 octets, by spaces and by words; 8,200 and 8,201 requests.
@@ -1175,7 +1350,7 @@ def nonsense(rng):
             elif fault == 5:
                 line = ' ' * rng.randint(0, 3) + line.replace(' ', ' ' * rng.randint(1, 3)) + ' ' * rng.randint(0, 3)
             block += [line, 'show'] if rng.random() < 0.3 else [line]
-        yield block
+        yield [*block, link('newer')]
 
 
 STORE = [store_remove_places, store_insert_places, store_insert_checks, store_insert_slots, store_remove_small, store_insert_small,
@@ -1186,7 +1361,8 @@ EVENTS = [events_small, eof_places, eof_small, eof_checks, eof_data_small, eof_s
 QUERIES = [held_kinds, held_places, held_small, held_checks, map_places, held_history, held_wide_lists]
 PDUS = [pdus_metadata, pdus_metadata_checks, pdus_lengths, pdus_limits, pdus_written, pdus_read]
 SEQUENCES = [sequences_runs, sequences_any]
-REST = [*EVENTS, *QUERIES, *PDUS, *SEQUENCES, nonsense]
+LINKS = [link_octets, link_writes, link_reads, link_sequences, link_kept, link_words, link_history]
+REST = [*EVENTS, *QUERIES, *PDUS, *SEQUENCES, *LINKS, nonsense]
 
 # What a removal did (document 02, C-16), and by how many ranges the list grew.
 GREW = {'whole': -1, 'left': 0, 'right': 0, 'split': 1}
@@ -1248,9 +1424,51 @@ ORDERS = {'pdu': TAKEN, 'nak': TAKEN, 'refused 2': EMPTY, 'refused 3': REVERSED}
 
 
 def asked(*answers):
-    """The kinds of these answers by how the metadata request stands, both flags."""
-    return {f'{answer} {how} {flag}' for answer in answers for how in ORDERS[answer] for flag in FLAGS}
+    """The kinds of these answers by how the metadata request stands, both flags and the older edition."""
+    return {f'{answer} {how} {flag} {edition}' for answer in answers for how in ORDERS[answer] for edition, flag in FORMS}
 
+
+# What the same line is answered under both editions (document 02, C-20), by its flag; of a packet, by the lowest bit of its first octet.
+# The large flag is 15 under the older edition, behind the numbers of `first` and before all others; each packet but one that is shorter than
+# four octets is 15 under one edition at least.
+def under(older, newer, flag):
+    return f'{older} under older, {newer} under newer, {flag}'
+
+
+def alike(flag, *said):
+    return {under(answer, answer, flag) for answer in said}
+
+
+def refusing(*numbers):
+    return [f'refused {number}' for number in numbers]
+
+
+def fifteen(flag, *said):
+    return {under('refused 15', answer, flag) for answer in said}
+
+
+FAULTY = refusing(16, 17, 18, 3, 2, 14)
+WRITTEN = (alike('normal', 'pdu', *refusing(10, 13, 18, 3, 2, 7, 14, 6)) | alike('large', *refusing(10, 13))
+           | fifteen('large', 'pdu', *refusing(18, 3, 2, 14, 6)))
+READ = ({under(answer, 'refused 15', 'normal') for answer in ('nak', *FAULTY)} | alike('normal', *refusing(15, 16)) | alike('large', *refusing(15, 16))
+        | fifteen('normal', 'nak', *FAULTY) | fifteen('large', 'nak', *FAULTY))
+SENT = (alike('normal', 'sent', *refusing(10, 8, 12, 13, 14, 7, 11, 20, 6)) | alike('large', *refusing(10, 8, 12, 13))
+        | fifteen('large', 'sent', *refusing(14, 11, 20, 6)))
+
+
+def kept_link(*said):
+    """Answers under an edition that was set before the last `new`."""
+    return {f'{answer} {edition}, new since' for answer, edition in said}
+
+
+# Every first octet of a packet under both editions.
+FIRST = {f'octet {first:02x} {edition}' for first in range(256) for edition in EDITIONS}
+LINKED_KINDS = {
+    'write': WRITTEN | kept_link(('pdu', 'newer'), ('pdu', 'older'), ('refused 15', 'older')),
+    'read': READ | FIRST | kept_link(('nak', 'newer'), ('nak', 'older'), ('refused 15', 'newer'), ('refused 15', 'older')),
+    'nak': SENT | kept_link(('sent', 'newer'), ('sent', 'older'), ('refused 15', 'older')),
+    'link': {'ok newer', 'ok older', 'error newer crc', 'error older crc'} | {f'error {edition}' for edition in EDITIONS},
+}
 
 # What a full run must meet at least once: by command, first words of answers and refusal numbers.
 REACH = {
@@ -1266,9 +1484,10 @@ REACH = {
     'held': HELD | UNEQUAL | {'yes', 'no', 2, 3, 8, 10, 12},
     'missing': MISSING | UNEQUAL | {'missing', 8, 10, 12},
     'map': MAPPED | UNEQUAL | {'map', 'error', 8, 10, 12},
-    'write': asked('pdu', 'refused 2', 'refused 3') | {'pdu', 2, 3, 6, 7, 10, 13, 14, 18},
-    'read': asked('nak', 'refused 2', 'refused 3') | {'nak', 2, 3, 14, 15, 16, 17, 18},
-    'nak': UNEQUAL | {'pdu', 'sent', 6, 7, 8, 10, 11, 12, 13, 14, 20},
+    'write': asked('pdu', 'refused 2', 'refused 3') | LINKED_KINDS['write'] | {'pdu', 2, 3, 6, 7, 10, 13, 14, 15, 18},
+    'read': asked('nak', 'refused 2', 'refused 3') | LINKED_KINDS['read'] | {'nak', 2, 3, 14, 15, 16, 17, 18},
+    'nak': UNEQUAL | LINKED_KINDS['nak'] | {'pdu', 'sent', 6, 7, 8, 10, 11, 12, 13, 14, 15, 20},
+    'link': LINKED_KINDS['link'] | {'ok', 'error'},
 }
 RUST_REACH = {
     'add': {'added', 1, 2, 3, 4},
@@ -1412,23 +1631,61 @@ def requests_in(parts):
     return flag, list(zip(numbers[::2], numbers[1::2]))
 
 
-def orders(parts, answer):
+def saying(answer):
+    """What an answer says, with a refusal's number and nothing else."""
+    return ' '.join(answer.split(' ')[:2 if answer.startswith('refused ') else 1])
+
+
+def orders(parts, answer, edition):
     """The kinds of an answer to such a line by how the metadata request stands, as the tables above name them."""
-    said = ' '.join(answer.split(' ')[:2]) if answer.startswith('refused ') else answer.split(' ')[0]
+    said = saying(answer)
     if said in ORDERS:
         flag, requests = requests_in(parts)
         word = ''.join('m' if pair == (0, 0) else 'g' if pair[0] < pair[1] else 'e' if pair[0] == pair[1] else 'r' for pair in requests)
         for how, pattern in ORDERS[said].items():
             if re.fullmatch(pattern, word):
-                yield f'{said} {how} {flag}'
+                yield f'{said} {how} {flag} {edition}'
+
+
+class Link:
+    """The link as it stands while lines are gone through: its edition, whether there was a `new` since, and the last line of a PDU or a
+    sequence with its answer under that edition."""
+
+    def __init__(self):
+        self.edition, self.since, self.last = 'newer', False, ('', '', '')
+
+    def met(self, line, parts, answer):
+        """The kinds of an answer by the link, as the tables above name them."""
+        if parts[0] == 'new' and answer == ['ok']:
+            self.since = True
+        elif parts[0] == 'link' and answer == ['ok']:
+            self.edition, self.since = parts[1], False
+            yield f'ok {self.edition}'
+        elif parts[0] == 'link':
+            yield f'error {self.edition}'
+            yield ' '.join(['error', *parts[1:]])
+        elif parts[0] in ('write', 'read', 'nak') and not answer[0].startswith('error '):
+            said = saying(answer[-1])
+            if self.since:
+                yield f'{said} {self.edition}, new since'
+            octets = parts[1] if parts[0] == 'read' and len(parts) == 2 else ''
+            if len(octets) >= 8:
+                yield f'octet {octets[:2]} {self.edition}'
+            before, edition, was = self.last
+            if line == before and edition != self.edition:
+                flag = parts[6] if parts[0] != 'read' else FLAGS[int(octets[:2] or '0', 16) & 1]
+                yield under(was, said, flag) if edition == 'older' else under(said, was, flag)
+            self.last = line, self.edition, said
 
 
 def met(lines, expected):
     """(command, kind) of each answer to these lines; of a removal with the store's width, of an insert, an event or a sequence
-    also how it met the record where the line before showed that, of a PDU how its metadata request stands."""
-    width, shown = 'wide', None
+    also how it met the record where the line before showed that, of a PDU how its metadata request stands; of a PDU and a sequence
+    also what the link made of it."""
+    width, shown, link_now = 'wide', None, Link()
     for at, answer in expected:
         parts = lines[at - 1].split() or ['']
+        yield from ((parts[0], how) for how in link_now.met(lines[at - 1], parts, answer))
         if parts[0] == 'new' and answer == ['ok']:
             width = parts[-2]
         for said in answer:
@@ -1440,7 +1697,7 @@ def met(lines, expected):
                 yield parts[0], how
             yield from ((parts[0], how) for how in record.queried(numbers, answer[0]))
         if parts[0] in ('write', 'read'):
-            yield from ((parts[0], how) for how in orders(parts, answer[0]))
+            yield from ((parts[0], how) for how in orders(parts, answer[0], link_now.edition))
         if parts[0] == 'show' and not answer[0].startswith('error '):
             shown = answer[0]
         elif parts[0] not in QUERIED:

@@ -590,6 +590,9 @@ static void queries(void) {
 
 static const struct pusmarke_identity identity = {1, 1, 1, 7, 2};
 
+/* Any number but 0 is yes. */
+static const struct pusmarke_form newer = {0, 0}, newer_large = {0, UINT64_MAX}, older = {2, 0}, older_large = {4294967296u, 8};
+
 /* Document 01's example packet. */
 static const uint8_t example[32] = {0x28, 0x00, 0x19, 0x00, 0x01, 0x07, 0x02, 0x08, 0x00, 0x00, 0x00, 0x00, 0x00, 0x00, 0x03, 0xe8,
     0x00, 0x00, 0x00, 0x00, 0x00, 0x00, 0x00, 0x00, 0x00, 0x00, 0x00, 0x64, 0x00, 0x00, 0x00, 0xc8};
@@ -616,26 +619,26 @@ static void writing(void) {
 
     memset(buf, 0xaa, sizeof buf);
     memcpy(kept, buf, sizeof buf);
-    REFUSED(pusmarke_write(identity, 0, 0, 1000, requests, 3, buf, 32), PUSMARKE_BAD_STORE);
-    REFUSED(pusmarke_write(identity, 0, 0, 1000, long_list, 2 * PAIRS, buf, 32), PUSMARKE_BAD_STORE);
+    REFUSED(pusmarke_write(identity, newer, 0, 1000, requests, 3, buf, 32), PUSMARKE_BAD_STORE);
+    REFUSED(pusmarke_write(identity, newer, 0, 1000, long_list, 2 * PAIRS, buf, 32), PUSMARKE_BAD_STORE);
     bad.entity_length = 0;
-    REFUSED(pusmarke_write(bad, 0, 0, 1000, requests, 4, buf, 32), PUSMARKE_BAD_IDENTITY);
+    REFUSED(pusmarke_write(bad, newer, 0, 1000, requests, 4, buf, 32), PUSMARKE_BAD_IDENTITY);
     bad.entity_length = SIZE_MAX;
-    REFUSED(pusmarke_write(bad, 0, 0, 1000, requests, 4, buf, 32), PUSMARKE_BAD_IDENTITY);
+    REFUSED(pusmarke_write(bad, newer, 0, 1000, requests, 4, buf, 32), PUSMARKE_BAD_IDENTITY);
     bad = identity;
     bad.number = 256;
-    REFUSED(pusmarke_write(bad, 0, 0, 1000, requests, 4, buf, 32), PUSMARKE_BAD_IDENTITY);
-    REFUSED(pusmarke_write(identity, 0, 1000, 0, requests, 4, buf, 32), PUSMARKE_SCOPE_REVERSED);
-    CARRIES(pusmarke_write(identity, 0, 0, 1000, turned, 2, buf, 32), PUSMARKE_START_LARGER_THAN_END, 200, 100);
-    REFUSED(pusmarke_write(identity, 0, 0, 1000, twice, 4, buf, 32), PUSMARKE_EMPTY_SEGMENT);
-    REFUSED(pusmarke_write(identity, 0, 0, 1000, apart, 6, buf, 32), PUSMARKE_EMPTY_SEGMENT);
-    REFUSED(pusmarke_write(identity, 0, 0, 1000, others, 4, buf, 32), PUSMARKE_EMPTY_SEGMENT);
-    REFUSED(pusmarke_write(identity, 0, 0, 1000, others + 2, 4, buf, 32), PUSMARKE_EMPTY_SEGMENT);
-    CARRIES(pusmarke_write(identity, 0, 0, 1000, in_turn, 6, buf, 32), PUSMARKE_START_LARGER_THAN_END, 200, 100);
-    REFUSED(pusmarke_write(identity, 0, 0, 1000, in_turn + 4, 6, buf, 32), PUSMARKE_EMPTY_SEGMENT);
-    REFUSED(pusmarke_write(identity, 0, 0, 1000, huge, 2, buf, 32), PUSMARKE_LARGE_SEGMENT_FOR_NORMAL_FILE_SIZE);
-    CARRIES(pusmarke_write(identity, 0, 0, 1000, requests, 4, buf, 31), PUSMARKE_BUFFER_SIZE_MISSMATCH, 32, 31);
-    CARRIES(pusmarke_write(identity, 0, 0, 1000, NULL, 0, NULL, 0), PUSMARKE_BUFFER_SIZE_MISSMATCH, 16, 0);
+    REFUSED(pusmarke_write(bad, newer, 0, 1000, requests, 4, buf, 32), PUSMARKE_BAD_IDENTITY);
+    REFUSED(pusmarke_write(identity, newer, 1000, 0, requests, 4, buf, 32), PUSMARKE_SCOPE_REVERSED);
+    CARRIES(pusmarke_write(identity, newer, 0, 1000, turned, 2, buf, 32), PUSMARKE_START_LARGER_THAN_END, 200, 100);
+    REFUSED(pusmarke_write(identity, newer, 0, 1000, twice, 4, buf, 32), PUSMARKE_EMPTY_SEGMENT);
+    REFUSED(pusmarke_write(identity, newer, 0, 1000, apart, 6, buf, 32), PUSMARKE_EMPTY_SEGMENT);
+    REFUSED(pusmarke_write(identity, newer, 0, 1000, others, 4, buf, 32), PUSMARKE_EMPTY_SEGMENT);
+    REFUSED(pusmarke_write(identity, newer, 0, 1000, others + 2, 4, buf, 32), PUSMARKE_EMPTY_SEGMENT);
+    CARRIES(pusmarke_write(identity, newer, 0, 1000, in_turn, 6, buf, 32), PUSMARKE_START_LARGER_THAN_END, 200, 100);
+    REFUSED(pusmarke_write(identity, newer, 0, 1000, in_turn + 4, 6, buf, 32), PUSMARKE_EMPTY_SEGMENT);
+    REFUSED(pusmarke_write(identity, newer, 0, 1000, huge, 2, buf, 32), PUSMARKE_LARGE_SEGMENT_FOR_NORMAL_FILE_SIZE);
+    CARRIES(pusmarke_write(identity, newer, 0, 1000, requests, 4, buf, 31), PUSMARKE_BUFFER_SIZE_MISSMATCH, 32, 31);
+    CARRIES(pusmarke_write(identity, newer, 0, 1000, NULL, 0, NULL, 0), PUSMARKE_BUFFER_SIZE_MISSMATCH, 16, 0);
     {
         /* 511 requests make a PDU of 4,104 octets */
         static uint64_t many[2 * 511];
@@ -644,14 +647,14 @@ static void writing(void) {
             many[2 * i] = 2 * i;
             many[2 * i + 1] = 2 * i + 1;
         }
-        REFUSED(pusmarke_write(identity, 0, 0, 2000, many, 2 * 511, large_buffer, 4104), PUSMARKE_PDU_SIZE);
-        CARRIES(pusmarke_write(identity, 0, 0, 2000, many, 2 * 510, buf, 32), PUSMARKE_BUFFER_SIZE_MISSMATCH, 4096, 32);
+        REFUSED(pusmarke_write(identity, newer, 0, 2000, many, 2 * 511, large_buffer, 4104), PUSMARKE_PDU_SIZE);
+        CARRIES(pusmarke_write(identity, newer, 0, 2000, many, 2 * 510, buf, 32), PUSMARKE_BUFFER_SIZE_MISSMATCH, 4096, 32);
     }
     SAME(kept, buf);
-    ACCEPTED(pusmarke_write(identity, 0, 0, 1000, requests, 4, buf, 32), 32, 0, 0);
+    ACCEPTED(pusmarke_write(identity, newer, 0, 1000, requests, 4, buf, 32), 32, 0, 0);
     SAME(example, buf);
     /* the metadata request keeps its place */
-    ACCEPTED(pusmarke_write(identity, 0, 0, 1000, last, 4, buf, 32), 32, 0, 0);
+    ACCEPTED(pusmarke_write(identity, newer, 0, 1000, last, 4, buf, 32), 32, 0, 0);
     SAME(metadata_last, buf);
 }
 
@@ -666,7 +669,7 @@ static struct pusmarke_nak damaged(size_t at, uint8_t octet) {
     uint8_t packet[32];
     memcpy(packet, example, sizeof packet);
     packet[at] = octet;
-    return pusmarke_read(packet, sizeof packet);
+    return pusmarke_read(packet, sizeof packet, 0);
 }
 
 static int step_is(struct pusmarke_step s, uint64_t found, uint64_t start, uint64_t end, size_t at) {
@@ -674,7 +677,7 @@ static int step_is(struct pusmarke_step s, uint64_t found, uint64_t start, uint6
 }
 
 static void reading(void) {
-    struct pusmarke_nak n = pusmarke_read(example, sizeof example);
+    struct pusmarke_nak n = pusmarke_read(example, sizeof example, 0);
     uint8_t packet[32];
 
     HOLDS(n.refusal == 0 && n.start == 0 && n.end == 0 && n.large == 0 && n.scope_start == 0 && n.scope_end == 1000);
@@ -688,15 +691,15 @@ static void reading(void) {
     HOLDS(step_is(pusmarke_next(example, 32, SIZE_MAX), 0, 0, 0, SIZE_MAX));
     HOLDS(step_is(pusmarke_next(NULL, 0, 0), 0, 0, 0, 0));
     /* the metadata request last */
-    n = pusmarke_read(metadata_last, sizeof metadata_last);
+    n = pusmarke_read(metadata_last, sizeof metadata_last, 0);
     HOLDS(n.refusal == 0 && n.scope_start == 0 && n.scope_end == 1000 && n.from == 16 && n.to == 32 && n.next == 16);
     HOLDS(step_is(pusmarke_next(metadata_last, 32, 16), 1, 100, 200, 24));
     HOLDS(step_is(pusmarke_next(metadata_last, 32, 24), 1, 0, 0, 32));
     HOLDS(step_is(pusmarke_next(metadata_last, 32, 32), 0, 0, 0, 32));
 
-    HOLDS(nothing_read(pusmarke_read(NULL, 0), PUSMARKE_LENGTH_MISMATCH, 0, 0, 0));
-    HOLDS(nothing_read(pusmarke_read(example, 3), PUSMARKE_LENGTH_MISMATCH, 0, 0, 3));
-    HOLDS(nothing_read(pusmarke_read(example, 31), PUSMARKE_LENGTH_MISMATCH, 0, 0, 31));
+    HOLDS(nothing_read(pusmarke_read(NULL, 0, 0), PUSMARKE_LENGTH_MISMATCH, 0, 0, 0));
+    HOLDS(nothing_read(pusmarke_read(example, 3, 0), PUSMARKE_LENGTH_MISMATCH, 0, 0, 3));
+    HOLDS(nothing_read(pusmarke_read(example, 31, 0), PUSMARKE_LENGTH_MISMATCH, 0, 0, 31));
     HOLDS(nothing_read(damaged(0, 0x20), PUSMARKE_BAD_HEADER, 0, 0, 32));
     HOLDS(nothing_read(damaged(3, 0x08), PUSMARKE_BAD_HEADER, 0, 0, 32));
     HOLDS(nothing_read(damaged(2, 0x18), PUSMARKE_LENGTH_MISMATCH, 0, 0, 32));
@@ -704,11 +707,11 @@ static void reading(void) {
     HOLDS(nothing_read(damaged(8, 0x01), PUSMARKE_SCOPE_REVERSED, 0, 0, 32));
     HOLDS(nothing_read(damaged(19, 0x01), PUSMARKE_START_LARGER_THAN_END, 1, 0, 32));
     HOLDS(nothing_read(damaged(31, 0x64), PUSMARKE_EMPTY_SEGMENT, 0, 0, 32));
-    HOLDS(nothing_read(pusmarke_read(metadata_twice, sizeof metadata_twice), PUSMARKE_EMPTY_SEGMENT, 0, 0, 40));
+    HOLDS(nothing_read(pusmarke_read(metadata_twice, sizeof metadata_twice, 0), PUSMARKE_EMPTY_SEGMENT, 0, 0, 40));
     /* a data field of one octet less */
     memcpy(packet, example, sizeof packet);
     packet[2] = 0x18;
-    HOLDS(nothing_read(pusmarke_read(packet, 31), PUSMARKE_LENGTH_MISMATCH, 0, 0, 31));
+    HOLDS(nothing_read(pusmarke_read(packet, 31, 0), PUSMARKE_LENGTH_MISMATCH, 0, 0, 31));
     /* 511 requests: a fine PDU but for its length */
     memcpy(large_buffer, example, 16);
     large_buffer[1] = 0x10;
@@ -719,7 +722,139 @@ static void reading(void) {
             memcpy(large_buffer + 16 + 8 * i, example + 24, 8);
         }
     }
-    HOLDS(nothing_read(pusmarke_read(large_buffer, 4104), PUSMARKE_PDU_SIZE, 0, 0, 4104));
+    HOLDS(nothing_read(pusmarke_read(large_buffer, 4104, 0), PUSMARKE_PDU_SIZE, 0, 0, 4104));
+}
+
+/* The example of the older edition: its version bits are 000, and all else is alike. */
+static const uint8_t older_example[32] = {0x08, 0x00, 0x19, 0x00, 0x01, 0x07, 0x02, 0x08, 0x00, 0x00, 0x00, 0x00, 0x00, 0x00, 0x03, 0xe8,
+    0x00, 0x00, 0x00, 0x00, 0x00, 0x00, 0x00, 0x00, 0x00, 0x00, 0x00, 0x64, 0x00, 0x00, 0x00, 0xc8};
+
+/* Behind the first octet: a packet that reads with fields of 4 octets, scope (0, 0) and requests (0, 0), (0, 1), (0, 2), and of 8 octets,
+ * scope (0, 0) and request (1, 2). */
+static const uint8_t of_both[40] = {0xff, 0x00, 0x21, 0x00, 0x01, 0x07, 0x02, 0x08, 0, 0, 0, 0, 0, 0, 0, 0, 0, 0, 0, 0, 0, 0, 0, 0, 0, 0, 0, 0, 0,
+    0, 0, 1, 0, 0, 0, 0, 0, 0, 0, 2};
+
+/* The two editions: each writes its own octets, and refuses those of the other. */
+static void editions(void) {
+    const uint64_t requests[4] = {0, 0, 100, 200};
+    const uint64_t turned[2] = {200, 100};
+    const uint64_t empty[2] = {5, 5};
+    static uint64_t many[2 * 255];
+    const struct pusmarke_form every[3] = {{0, 0}, {0, 1}, {1, 0}};
+    static const uint8_t first[3] = {0x28, 0x29, 0x08};
+    struct pusmarke_identity bad = identity;
+    struct pusmarke_nak n;
+    uint8_t buf[56], kept[56], packet[40];
+    unsigned octet;
+    size_t i, length;
+
+    ACCEPTED(pusmarke_write(identity, older, 0, 1000, requests, 4, buf, 32), 32, 0, 0);
+    HOLDS(memcmp(buf, older_example, 32) == 0);
+    n = pusmarke_read(older_example, sizeof older_example, 1);
+    HOLDS(n.refusal == 0 && n.start == 0 && n.end == 0 && n.large == 0 && n.scope_start == 0 && n.scope_end == 1000);
+    HOLDS(n.identity.entity_length == 1 && n.identity.number_length == 1 && n.identity.source == 1 && n.identity.number == 7
+        && n.identity.destination == 2);
+    HOLDS(n.from == 16 && n.to == 32 && n.next == 16);
+    HOLDS(step_is(pusmarke_next(older_example, 32, 16), 1, 0, 0, 24));
+    HOLDS(step_is(pusmarke_next(older_example, 32, 24), 1, 100, 200, 32));
+    HOLDS(step_is(pusmarke_next(older_example, 32, 32), 0, 0, 0, 32));
+    HOLDS(nothing_read(pusmarke_read(example, 32, 1), PUSMARKE_BAD_HEADER, 0, 0, 32));
+    HOLDS(nothing_read(pusmarke_read(example, 32, 4294967296u), PUSMARKE_BAD_HEADER, 0, 0, 32));
+    HOLDS(nothing_read(pusmarke_read(older_example, 32, 0), PUSMARKE_BAD_HEADER, 0, 0, 32));
+    HOLDS(pusmarke_read(older_example, 32, UINT64_MAX).refusal == 0);
+    HOLDS(pusmarke_read(older_example, 32, 4294967296u).refusal == 0);
+    /* fewer than four octets come first; the other faults are the same under both editions */
+    HOLDS(nothing_read(pusmarke_read(example, 3, 1), PUSMARKE_LENGTH_MISMATCH, 0, 0, 3));
+    HOLDS(nothing_read(pusmarke_read(older_example, 31, 1), PUSMARKE_LENGTH_MISMATCH, 0, 0, 31));
+    HOLDS(nothing_read(pusmarke_read(older_example, 31, 0), PUSMARKE_BAD_HEADER, 0, 0, 31));
+    HOLDS(nothing_read(pusmarke_read(NULL, 0, 1), PUSMARKE_LENGTH_MISMATCH, 0, 0, 0));
+    memcpy(packet, older_example, 32);
+    packet[7] = 0x09;
+    HOLDS(nothing_read(pusmarke_read(packet, 32, 1), PUSMARKE_NOT_NAK, 0, 0, 32));
+    HOLDS(nothing_read(pusmarke_read(packet, 32, 0), PUSMARKE_BAD_HEADER, 0, 0, 32));
+
+    /* each form that can be written is read under its own edition alone */
+    for (i = 0; i < 3; i++) {
+        length = every[i].large ? 56 : 32;
+        ACCEPTED(pusmarke_write(identity, every[i], 0, 1000, requests, 4, buf, length), length, 0, 0);
+        HOLDS(buf[0] == first[i]);
+        n = pusmarke_read(buf, length, every[i].older);
+        HOLDS(n.refusal == 0 && n.large == every[i].large && n.scope_start == 0 && n.scope_end == 1000 && n.to == length);
+        HOLDS(nothing_read(pusmarke_read(buf, length, !every[i].older), PUSMARKE_BAD_HEADER, 0, 0, length));
+    }
+
+    /* of all first octets the newer edition takes 28 and 29, the older 08; a step asks for the lowest bit alone */
+    memcpy(packet, of_both, sizeof packet);
+    for (octet = 0; octet < 256; octet++) {
+        packet[0] = (uint8_t)octet;
+        HOLDS(pusmarke_read(packet, 40, 0).refusal == (octet == 0x28 || octet == 0x29 ? PUSMARKE_ACCEPTED : PUSMARKE_BAD_HEADER));
+        HOLDS(pusmarke_read(packet, 40, 1).refusal == (octet == 0x08 ? PUSMARKE_ACCEPTED : PUSMARKE_BAD_HEADER));
+        HOLDS(step_is(pusmarke_next(packet, 40, 24), 1, octet % 2, octet % 2 ? 2 : 1, octet % 2 ? 40 : 32));
+    }
+
+    /* the large flag of the older edition: behind 10 and 13, before all others */
+    for (i = 0; i < 255; i++) {
+        many[2 * i] = 2 * i;
+        many[2 * i + 1] = 2 * i + 1;
+    }
+    memset(buf, 0xaa, sizeof buf);
+    memcpy(kept, buf, sizeof buf);
+    REFUSED(pusmarke_write(identity, older_large, 0, 1000, requests, 3, buf, 56), PUSMARKE_BAD_STORE);
+    bad.number = 256;
+    REFUSED(pusmarke_write(bad, older_large, 0, 1000, requests, 4, buf, 56), PUSMARKE_BAD_IDENTITY);
+    REFUSED(pusmarke_write(identity, older_large, 0, 1000, requests, 4, buf, 56), PUSMARKE_BAD_HEADER);
+    REFUSED(pusmarke_write(identity, older_large, 1000, 0, requests, 4, buf, 56), PUSMARKE_BAD_HEADER);
+    REFUSED(pusmarke_write(identity, older_large, 0, 1000, turned, 2, buf, 40), PUSMARKE_BAD_HEADER);
+    REFUSED(pusmarke_write(identity, older_large, 0, 1000, empty, 2, buf, 40), PUSMARKE_BAD_HEADER);
+    REFUSED(pusmarke_write(identity, older_large, 0, 1000, many, 2 * 255, buf, 56), PUSMARKE_BAD_HEADER);
+    REFUSED(pusmarke_write(identity, older_large, 0, 1000, requests, 4, buf, 55), PUSMARKE_BAD_HEADER);
+    REFUSED(pusmarke_write(identity, older_large, 0, 1000, requests, 4, NULL, 0), PUSMARKE_BAD_HEADER);
+    /* where the newer edition has them */
+    REFUSED(pusmarke_write(identity, newer_large, 1000, 0, requests, 4, buf, 56), PUSMARKE_SCOPE_REVERSED);
+    CARRIES(pusmarke_write(identity, newer_large, 0, 1000, turned, 2, buf, 40), PUSMARKE_START_LARGER_THAN_END, 200, 100);
+    REFUSED(pusmarke_write(identity, newer_large, 0, 1000, empty, 2, buf, 40), PUSMARKE_EMPTY_SEGMENT);
+    REFUSED(pusmarke_write(identity, newer_large, 0, 1000, many, 2 * 255, buf, 56), PUSMARKE_PDU_SIZE);
+    CARRIES(pusmarke_write(identity, newer_large, 0, 1000, requests, 4, buf, 55), PUSMARKE_BUFFER_SIZE_MISSMATCH, 56, 55);
+    REFUSED(pusmarke_write(identity, older, 1000, 0, requests, 4, buf, 32), PUSMARKE_SCOPE_REVERSED);
+    REFUSED(pusmarke_write(identity, older, 0, 4294967296u, requests, 4, buf, 32), PUSMARKE_LARGE_SEGMENT_FOR_NORMAL_FILE_SIZE);
+    CARRIES(pusmarke_write(identity, older, 0, 1000, requests, 4, buf, 31), PUSMARKE_BUFFER_SIZE_MISSMATCH, 32, 31);
+    SAME(kept, buf);
+}
+
+/* The sequence of the older edition: the octets of the newer one but for the first of each PDU. */
+static void older_sequence(void) {
+    const uint64_t list[4] = {100, 120, 150, 200};
+    const uint64_t apart[4] = {150, 200, 100, 120};
+    const struct pusmarke_reception r = {300, 2, 0, 0, 0, 0}, below = {199, 2, 0, 0, 0, 0};
+    struct pusmarke_identity bad = identity;
+    uint8_t buf[80], kept[80];
+    const uint8_t each[48] = {0x08, 0, 0x11, 0, 1, 7, 2, 8, 0, 0, 0, 0, 0, 0, 0, 120, 0, 0, 0, 100, 0, 0, 0, 120, 0x08, 0, 0x11, 0, 1, 7, 2, 8,
+        0, 0, 0, 120, 0, 0, 0x01, 0x2c, 0, 0, 0, 150, 0, 0, 0, 200};
+
+    memset(buf, 0xaa, sizeof buf);
+    memcpy(kept, buf, sizeof buf);
+    REFUSED(pusmarke_nak_sequence(r, list, 3, identity, older_large, 40, 0, 2, buf, 80), PUSMARKE_BAD_STORE);
+    REFUSED(pusmarke_nak_sequence(r, apart, 4, identity, older_large, 40, 0, 2, buf, 80), PUSMARKE_NOT_COALESCED);
+    REFUSED(pusmarke_nak_sequence(below, list, 4, identity, older_large, 40, 0, 2, buf, 80), PUSMARKE_SCOPE_BELOW_LIST);
+    bad.entity_length = 0;
+    REFUSED(pusmarke_nak_sequence(r, list, 4, bad, older_large, 40, 0, 2, buf, 80), PUSMARKE_BAD_IDENTITY);
+    REFUSED(pusmarke_nak_sequence(r, list, 4, identity, older_large, 40, 0, 2, buf, 80), PUSMARKE_BAD_HEADER);
+    REFUSED(pusmarke_nak_sequence(r, list, 4, identity, older_large, 39, 0, 2, buf, 80), PUSMARKE_BAD_HEADER);
+    REFUSED(pusmarke_nak_sequence(r, list, 4, identity, older_large, SIZE_MAX, 0, 2, buf, 80), PUSMARKE_BAD_HEADER);
+    REFUSED(pusmarke_nak_sequence(r, list, 4, identity, older_large, 40, 3, 2, buf, 80), PUSMARKE_BAD_HEADER);
+    REFUSED(pusmarke_nak_sequence(r, list, 4, identity, older_large, 40, 0, 17, buf, 80), PUSMARKE_BAD_HEADER);
+    REFUSED(pusmarke_nak_sequence(r, list, 4, identity, older_large, 40, 0, 2, buf, 79), PUSMARKE_BAD_HEADER);
+    REFUSED(pusmarke_nak_sequence(r, list, 4, identity, older_large, 40, 0, 0, NULL, 0), PUSMARKE_BAD_HEADER);
+    REFUSED(pusmarke_nak_sequence(r, list, 4, identity, newer_large, 39, 0, 2, buf, 80), PUSMARKE_PDU_SIZE);
+    REFUSED(pusmarke_nak_sequence(r, list, 4, identity, older, 23, 0, 2, buf, 80), PUSMARKE_PDU_SIZE);
+    SAME(kept, buf);
+    ACCEPTED(pusmarke_nak_sequence(r, list, 4, identity, older, 24, 0, 2, buf, 80), 2, 48, 2);
+    HOLDS(memcmp(buf, each, 48) == 0 && memcmp(buf + 48, kept + 48, 32) == 0);
+    ACCEPTED(pusmarke_nak_sequence(r, list, 4, identity, older, 24, 1, 1, buf, 80), 1, 24, 2);
+    HOLDS(memcmp(buf, each + 24, 24) == 0);
+    HOLDS(pusmarke_read(buf, 24, 1).refusal == PUSMARKE_ACCEPTED && pusmarke_read(buf, 24, 0).refusal == PUSMARKE_BAD_HEADER);
+    ACCEPTED(pusmarke_nak_sequence(r, list, 4, identity, newer_large, 40, 0, 1, buf, 80), 1, 40, 1);
+    HOLDS(buf[0] == 0x29);
 }
 
 static void sequence(void) {
@@ -736,51 +871,51 @@ static void sequence(void) {
 
     memset(buf, 0xaa, sizeof buf);
     memcpy(kept, buf, sizeof buf);
-    REFUSED(pusmarke_nak_sequence(r, list, 3, identity, 0, 32, 0, 2, buf, 64), PUSMARKE_BAD_STORE);
+    REFUSED(pusmarke_nak_sequence(r, list, 3, identity, newer, 32, 0, 2, buf, 64), PUSMARKE_BAD_STORE);
     q = r;
     q.missing = 3;
-    REFUSED(pusmarke_nak_sequence(q, list, 4, identity, 0, 32, 0, 2, buf, 64), PUSMARKE_BAD_STORE);
+    REFUSED(pusmarke_nak_sequence(q, list, 4, identity, newer, 32, 0, 2, buf, 64), PUSMARKE_BAD_STORE);
     q = r;
     q.count = SIZE_MAX;
-    REFUSED(pusmarke_nak_sequence(q, list, 4, identity, 0, 32, 0, 2, buf, 64), PUSMARKE_BAD_STORE);
+    REFUSED(pusmarke_nak_sequence(q, list, 4, identity, newer, 32, 0, 2, buf, 64), PUSMARKE_BAD_STORE);
     q = r;
     q.sized = 1;
     q.size = 301;
-    REFUSED(pusmarke_nak_sequence(q, apart, 4, identity, 0, 32, 0, 2, buf, 64), PUSMARKE_BAD_STORE);
-    REFUSED(pusmarke_nak_sequence(r, apart, 4, identity, 0, 32, 0, 2, buf, 64), PUSMARKE_NOT_COALESCED);
+    REFUSED(pusmarke_nak_sequence(q, apart, 4, identity, newer, 32, 0, 2, buf, 64), PUSMARKE_BAD_STORE);
+    REFUSED(pusmarke_nak_sequence(r, apart, 4, identity, newer, 32, 0, 2, buf, 64), PUSMARKE_NOT_COALESCED);
     q = r;
     q.progress = 199;
-    REFUSED(pusmarke_nak_sequence(q, list, 4, identity, 0, 32, 0, 2, buf, 64), PUSMARKE_SCOPE_BELOW_LIST);
+    REFUSED(pusmarke_nak_sequence(q, list, 4, identity, newer, 32, 0, 2, buf, 64), PUSMARKE_SCOPE_BELOW_LIST);
     bad.number_length = 9;
-    REFUSED(pusmarke_nak_sequence(r, list, 4, bad, 0, 32, 0, 2, buf, 64), PUSMARKE_BAD_IDENTITY);
-    REFUSED(pusmarke_nak_sequence(r, list, 4, identity, 0, 23, 0, 2, buf, 64), PUSMARKE_PDU_SIZE);
-    REFUSED(pusmarke_nak_sequence(r, list, 4, identity, 0, SIZE_MAX, 0, 2, buf, 64), PUSMARKE_PDU_SIZE);
+    REFUSED(pusmarke_nak_sequence(r, list, 4, bad, newer, 32, 0, 2, buf, 64), PUSMARKE_BAD_IDENTITY);
+    REFUSED(pusmarke_nak_sequence(r, list, 4, identity, newer, 23, 0, 2, buf, 64), PUSMARKE_PDU_SIZE);
+    REFUSED(pusmarke_nak_sequence(r, list, 4, identity, newer, SIZE_MAX, 0, 2, buf, 64), PUSMARKE_PDU_SIZE);
     q.progress = 4294967296u;
     q.count = 1;
-    REFUSED(pusmarke_nak_sequence(q, huge, 2, identity, 0, 32, 0, 2, buf, 64), PUSMARKE_LARGE_SEGMENT_FOR_NORMAL_FILE_SIZE);
-    REFUSED(pusmarke_nak_sequence(r, list, 4, identity, 0, 32, 3, 2, buf, 64), PUSMARKE_BAD_CURSOR);
-    REFUSED(pusmarke_nak_sequence(r, list, 4, identity, 0, 32, 0, 17, buf, 64), PUSMARKE_BUDGET_TOO_LARGE);
-    CARRIES(pusmarke_nak_sequence(r, list, 4, identity, 0, 32, 0, 2, buf, 63), PUSMARKE_BUFFER_SIZE_MISSMATCH, 64, 63);
-    CARRIES(pusmarke_nak_sequence(r, list, 4, identity, 0, 32, 0, 2, NULL, 0), PUSMARKE_BUFFER_SIZE_MISSMATCH, 64, 0);
-    ACCEPTED(pusmarke_nak_sequence(r, list, 4, identity, 0, 32, 1, 0, NULL, 0), 0, 0, 1);
+    REFUSED(pusmarke_nak_sequence(q, huge, 2, identity, newer, 32, 0, 2, buf, 64), PUSMARKE_LARGE_SEGMENT_FOR_NORMAL_FILE_SIZE);
+    REFUSED(pusmarke_nak_sequence(r, list, 4, identity, newer, 32, 3, 2, buf, 64), PUSMARKE_BAD_CURSOR);
+    REFUSED(pusmarke_nak_sequence(r, list, 4, identity, newer, 32, 0, 17, buf, 64), PUSMARKE_BUDGET_TOO_LARGE);
+    CARRIES(pusmarke_nak_sequence(r, list, 4, identity, newer, 32, 0, 2, buf, 63), PUSMARKE_BUFFER_SIZE_MISSMATCH, 64, 63);
+    CARRIES(pusmarke_nak_sequence(r, list, 4, identity, newer, 32, 0, 2, NULL, 0), PUSMARKE_BUFFER_SIZE_MISSMATCH, 64, 0);
+    ACCEPTED(pusmarke_nak_sequence(r, list, 4, identity, newer, 32, 1, 0, NULL, 0), 0, 0, 1);
     SAME(kept, buf);
 
-    ACCEPTED(pusmarke_nak_sequence(r, list, 4, identity, 0, 32, 0, 2, buf, 64), 1, 32, 2);
+    ACCEPTED(pusmarke_nak_sequence(r, list, 4, identity, newer, 32, 0, 2, buf, 64), 1, 32, 2);
     HOLDS(memcmp(buf, both, 32) == 0 && memcmp(buf + 32, kept + 32, 32) == 0);
     /* the size known: it is progress, and the PDU is the same */
     q = r;
     q.sized = 1;
     q.size = 300;
-    ACCEPTED(pusmarke_nak_sequence(q, list, 4, identity, 0, 32, 0, 2, buf, 64), 1, 32, 2);
+    ACCEPTED(pusmarke_nak_sequence(q, list, 4, identity, newer, 32, 0, 2, buf, 64), 1, 32, 2);
     HOLDS(memcmp(buf, both, 32) == 0);
-    ACCEPTED(pusmarke_nak_sequence(r, list, 4, identity, 0, 24, 0, 2, buf, 64), 2, 48, 2);
+    ACCEPTED(pusmarke_nak_sequence(r, list, 4, identity, newer, 24, 0, 2, buf, 64), 2, 48, 2);
     HOLDS(memcmp(buf, each, 48) == 0 && memcmp(buf + 48, kept + 48, 16) == 0);
-    ACCEPTED(pusmarke_nak_sequence(r, list, 4, identity, 0, 24, 0, 1, buf, 64), 1, 24, 1);
-    ACCEPTED(pusmarke_nak_sequence(r, list, 4, identity, 0, 24, 1, 1, buf, 64), 1, 24, 2);
+    ACCEPTED(pusmarke_nak_sequence(r, list, 4, identity, newer, 24, 0, 1, buf, 64), 1, 24, 1);
+    ACCEPTED(pusmarke_nak_sequence(r, list, 4, identity, newer, 24, 1, 1, buf, 64), 1, 24, 2);
     HOLDS(memcmp(buf, each + 24, 24) == 0);
-    ACCEPTED(pusmarke_nak_sequence(r, list, 4, identity, 0, 24, 2, 1, buf, 64), 0, 0, 2);
+    ACCEPTED(pusmarke_nak_sequence(r, list, 4, identity, newer, 24, 2, 1, buf, 64), 0, 0, 2);
     /* nothing known and nothing noticed: metadata alone is asked for */
-    ACCEPTED(pusmarke_nak_sequence(pusmarke_fresh(0), NULL, 0, identity, 8, 47, 0, 1, buf, 64), 1, 40, 1);
+    ACCEPTED(pusmarke_nak_sequence(pusmarke_fresh(0), NULL, 0, identity, newer_large, 47, 0, 1, buf, 64), 1, 40, 1);
 }
 
 /* A pass: what comes with holes is asked for until nothing is missing. */
@@ -794,7 +929,7 @@ static void transfer(void) {
     for (;;) {
         size_t cursor = 0, sent = 0, place;
         for (;;) {
-            struct pusmarke_answer a = pusmarke_nak_sequence(r, list, 32, identity, 0, 48, cursor, 4, buf, sizeof buf);
+            struct pusmarke_answer a = pusmarke_nak_sequence(r, list, 32, identity, newer, 48, cursor, 4, buf, sizeof buf);
             HOLDS(a.refusal == 0);
             if (a.refusal != 0 || a.first == 0) {
                 break;
@@ -804,7 +939,7 @@ static void transfer(void) {
             /* each PDU is read back, and each request is answered */
             for (place = 0; place < a.second;) {
                 size_t length = (size_t)7 + buf[place + 1] * 256u + buf[place + 2];
-                struct pusmarke_nak n = pusmarke_read(buf + place, length);
+                struct pusmarke_nak n = pusmarke_read(buf + place, length, 0);
                 struct pusmarke_step s = pusmarke_next(buf + place, length, n.next);
                 HOLDS(n.refusal == 0);
                 while (s.found) {
@@ -846,7 +981,9 @@ int main(void) {
     queries();
     writing();
     reading();
+    editions();
     sequence();
+    older_sequence();
     transfer();
     printf("%u checks, %u wrong\n", checks, wrong);
     return wrong == 0 ? 0 : 1;

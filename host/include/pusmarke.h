@@ -1,4 +1,5 @@
-/* Pusmarke: the store of lost segments, the reception events and the NAK PDUs of a CFDP receiver (CCSDS 727.0-B-5).
+/* Pusmarke: the store of lost segments, the reception events and the NAK PDUs of a CFDP receiver (CCSDS 727.0-B-5, and an older edition
+ * of it where a link speaks that).
  *
  * Link libpusmarke_c.a (x86-64 Linux). No function allocates, keeps a pointer after it returns, or has a state of its own.
  *
@@ -8,7 +9,8 @@
  * A list is flat: start and end of a range by turns. A range is the offsets from its start up to, not including, its end. A store is
  * the first `count` pairs of a list; its capacity is the list's length in pairs, 4,096 at most. A store is narrow where `narrow` is
  * not 0: then no number of it is above 4,294,967,295. The large file flag is set where `large` is not 0: then an offset in a PDU has
- * F = 8 octets, else 4.
+ * F = 8 octets, else 4. A PDU is of the older edition where `older` is not 0: its version bits are 000 where the newer edition's are 001,
+ * and the bit of the large file flag is reserved and clear. Neither edition's reader accepts a packet of the other.
  *
  * Every number may have any value: what does not fit is refused by number. A refused call changes nothing that it is lent.
  * Refusals are looked for in the order in which each function lists them. */
@@ -85,13 +87,20 @@ struct pusmarke_identity {
     uint64_t destination;
 };
 
+/* What a link fixes about the shape of its PDUs. Of both, 0 is no and any other number is yes: all zero is the newer edition with offsets
+ * of 4 octets. */
+struct pusmarke_form {
+    uint64_t older; /* the older edition, which has no large file flag */
+    uint64_t large; /* the large file flag */
+};
+
 /* What pusmarke_read hands back. */
 struct pusmarke_nak {
     uint64_t refusal; /* 0 or the refusal's number */
     uint64_t start;   /* what refusal 3 carries */
     uint64_t end;
     struct pusmarke_identity identity;
-    uint64_t large;   /* 0 or 1 */
+    uint64_t large;   /* 0 or 1; 0 of every packet of the older edition */
     uint64_t scope_start;
     uint64_t scope_end;
     size_t from;      /* the octets of the requests: from `from` up to, not including, `to` */
@@ -195,25 +204,27 @@ struct pusmarke_answer pusmarke_missing_octets(struct pusmarke_reception record,
  * H = 4 + 2 * entity_length + number_length octets. A request (0, 0) asks for metadata; it may stand at
  * any place, once. */
 
-/* Writes one NAK PDU of this identity, scope and flat list of requests, which may be empty.
+/* Writes one NAK PDU of this identity, form, scope and flat list of requests, which may be empty.
  * Accepted: first is the octets written, all of the buffer: H + 1 + 2F and 2F for each request.
- * Refusals: 10 a list of odd length or of more than 4,096 pairs; 13; 18 scope start above scope end; then request by request, 3 start
- * above end or 2 start equals end, but for the first (0, 0) among them; 7 normal flag, and a number of the scope or of a request above
- * 4,294,967,295; 14 the PDU above 4,096 octets; 6 the buffer is not exactly as long as the PDU. */
-struct pusmarke_answer pusmarke_write(struct pusmarke_identity identity, uint64_t large, uint64_t scope_start, uint64_t scope_end,
-    const uint64_t *requests, size_t requests_length, uint8_t *buffer, size_t buffer_length);
+ * Refusals: 10 a list of odd length or of more than 4,096 pairs; 13; 15 the older edition with the large file flag; 18 scope start above
+ * scope end; then request by request, 3 start above end or 2 start equals end, but for the first (0, 0) among them; 7 normal flag, and a
+ * number of the scope or of a request above 4,294,967,295; 14 the PDU above 4,096 octets; 6 the buffer is not exactly as long as the
+ * PDU. */
+struct pusmarke_answer pusmarke_write(struct pusmarke_identity identity, struct pusmarke_form form, uint64_t scope_start,
+    uint64_t scope_end, const uint64_t *requests, size_t requests_length, uint8_t *buffer, size_t buffer_length);
 
-/* Reads one NAK PDU.
+/* Reads one NAK PDU of the older edition where `older` is not 0, else of the newer.
  * Accepted: what it says. Its requests are the packet's own octets from `from` up to `to`.
  * Refused: the number, what refusal 3 carries, `next` the packet's length, and all else 0.
- * Refusals: 16 below 4 octets; 15 a fixed bit of octets 0 and 3 wrong; 16 the packet is not H octets and its length field's, or that is
- * 0; 17 directive code not 8; 16 the data field is not 1 + 2F octets and whole requests; 18 scope start above scope end; then request
- * by request, 3 and 2 as in pusmarke_write; 14 above 4,096 octets. */
-struct pusmarke_nak pusmarke_read(const uint8_t *packet, size_t packet_length);
+ * Refusals: 16 below 4 octets; 15 a fixed bit of octets 0 and 3 wrong, among them the version bits, and of the older edition the lowest bit
+ * of octet 0; 16 the packet is not H octets and its length field's, or that is 0; 17 directive code not 8; 16 the data field is not 1 + 2F
+ * octets and whole requests; 18 scope start above scope end; then request by request, 3 and 2 as in pusmarke_write; 14 above 4,096
+ * octets. */
+struct pusmarke_nak pusmarke_read(const uint8_t *packet, size_t packet_length, uint64_t older);
 
 /* The request at a place of a packet, and the place behind it. Start at `next` of pusmarke_read and go on at `at`, until the end is
- * found: fewer than 2F octets from the place to the packet's end, F by the flag in octet 0. At the end `at` stays. Any octets and any place
- * are fine. */
+ * found: fewer than 2F octets from the place to the packet's end, F by the lowest bit of octet 0, whatever the edition. At the end `at`
+ * stays. Any octets and any place are fine. */
 struct pusmarke_step pusmarke_next(const uint8_t *packet, size_t packet_length, size_t at);
 
 /* The NAK sequence: PDUs of at most `largest` octets that ask for all that is missing, at most `budget` of them, back to back.
@@ -221,11 +232,11 @@ struct pusmarke_step pusmarke_next(const uint8_t *packet, size_t packet_length, 
  * down. The first call has cursor 0, each later one the cursor that the last one gave; at the end the cursor is the number of entries,
  * and no PDU is written.
  * Accepted: first is the PDUs, second the octets written, third the new cursor. Octets behind those written stay.
- * Refusals: those of a record; 13; 14 largest above 4,096 or below H + 1 + 4F, room for one request; 7 normal flag, and progress or a
- * counted number above 4,294,967,295; 11 cursor above the number of entries; 20 budget above 16; 6 the buffer is shorter than budget
- * times largest, which is the number needed. */
+ * Refusals: those of a record; 13; 15 the older edition with the large file flag; 14 largest above 4,096 or below H + 1 + 4F, room for one
+ * request; 7 normal flag, and progress or a counted number above 4,294,967,295; 11 cursor above the number of entries; 20 budget above 16;
+ * 6 the buffer is shorter than budget times largest, which is the number needed. */
 struct pusmarke_answer pusmarke_nak_sequence(struct pusmarke_reception record, const uint64_t *list, size_t list_length,
-    struct pusmarke_identity identity, uint64_t large, size_t largest, size_t cursor, size_t budget, uint8_t *buffer,
+    struct pusmarke_identity identity, struct pusmarke_form form, size_t largest, size_t cursor, size_t budget, uint8_t *buffer,
     size_t buffer_length);
 
 #ifdef __cplusplus

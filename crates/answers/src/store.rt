@@ -7,7 +7,7 @@ ghost use Rattle.segment_store.specs.Remove.{removeCase};
 ghost use Rattle.segment_store.specs.Coalesce.{coalesceCase};
 ghost use Rattle.segment_store.specs.Insert.{insertCase};
 ghost use Rattle.segment_store.specs.SegmentInStore.{inStoreCase};
-ghost use Rattle.segment_store.specs.WriteSegmentsToBytes.{writeCase};
+ghost use Rattle.segment_store.specs.WriteSegmentsToBytes.{toBytesCase};
 ghost use Rattle.answers.specs.Answer.{answerOf};
 use crate::PusmarkeAnswer;
 use crate::inner::wide;
@@ -79,7 +79,7 @@ pub fn of_in_store(a: InStoreAnswer) -> PusmarkeAnswer
 }
 
 pub fn of_write(a: WriteAnswer) -> PusmarkeAnswer
-    ensures { λ r. ⌜ r ≡ answerOf (writeCase a) ⌝ }
+    ensures { λ r. ⌜ r ≡ answerOf (toBytesCase a) ⌝ }
 {
     match a {
         WriteAnswer::Written(octets) => with_one(0, wide(octets)),

@@ -8,9 +8,12 @@ use Rattle.octets.specs.declared.LargeFileFlag.{LargeFileFlag}
 use Rattle.octets.specs.declared.LargeFileFlag.the-variants.{Normal, Large}
 use Rattle.segment_store.specs.declared.Store.{Store}
 use Rattle.reception.specs.declared.Reception.{Reception}
+use Rattle.nak.specs.declared.Edition.{Edition}
+use Rattle.nak.specs.declared.Edition.the-variants.{Older, Newer}
 use Rattle.nak.specs.declared.Form.{Form}
 use Rattle.nak.specs.declared.Identity.{Identity}
 use Rattle.c_values.specs.declared.PusmarkeReception.{PusmarkeReception}
+use Rattle.c_values.specs.declared.PusmarkeForm.{PusmarkeForm}
 use Rattle.c_values.specs.declared.PusmarkeIdentity.{PusmarkeIdentity}
 
 -- A mark: 0 is no, any other number is yes.
@@ -23,9 +26,12 @@ widthIn narrow = cond (isSet narrow) Narrow Wide
 abbrev pub flagIn : ℕ → LargeFileFlag
 flagIn large = cond (isSet large) Large Normal
 
--- The form of a PDU, by the mark of its flag.
-abbrev pub formIn : ℕ → Form
-formIn large = record { flag = flagIn large }
+abbrev pub editionIn : ℕ → Edition
+editionIn older = cond (isSet older) Older Newer
+
+-- The form of a PDU, by its marks.
+abbrev pub formIn : PusmarkeForm → Form
+formIn g = record { edition = editionIn (g .older); flag = flagIn (g .large) }
 
 -- The store with this count and width.
 abbrev pub storeOf : ℕ → ℕ → Store

@@ -1,9 +1,11 @@
 // Inner: C's numbers read as the calls' types, and marks.
 ghost use mathlib.Core.Path.{_≡_};
-ghost use Rattle.c_values.specs.Input.{isSet, widthIn, flagIn, formIn, storeOf, recordIn, identityIn};
+ghost use Rattle.c_values.specs.Input.{isSet, widthIn, flagIn, editionIn, formIn, storeOf, recordIn, identityIn};
 ghost use Rattle.c_values.specs.Output.{markOf};
+use crate::PusmarkeForm;
 use crate::PusmarkeIdentity;
 use crate::PusmarkeReception;
+use nak::Edition;
 use nak::Form;
 use nak::Identity;
 use octets::LargeFileFlag;
@@ -43,12 +45,22 @@ pub fn flag_in(large: u64) -> LargeFileFlag
     }
 }
 
-// The form of a PDU, whose flag is all that C hands over of it.
-pub fn form_in(large: u64) -> Form
-    ensures { λ r. ⌜ r ≡ formIn large ⌝ }
+pub fn edition_in(older: u64) -> Edition
+    ensures { λ r. ⌜ r ≡ editionIn older ⌝ }
 {
-    let flag = flag_in(large);
-    Form { flag }
+    if is_set(older) {
+        Edition::Older
+    } else {
+        Edition::Newer
+    }
+}
+
+pub fn form_in(form: PusmarkeForm) -> Form
+    ensures { λ r. ⌜ r ≡ formIn form ⌝ }
+{
+    let edition = edition_in(form.older);
+    let flag = flag_in(form.large);
+    Form { edition, flag }
 }
 
 pub fn store_of(count: usize, narrow: u64) -> Store

@@ -23,6 +23,13 @@ pub struct PusmarkeIdentity {
     pub destination: u64,
 }
 
+// The form of a PDU: of `older` and `large`, 0 is no and any other number is yes.
+#[repr(C)]
+pub struct PusmarkeForm {
+    pub older: u64,
+    pub large: u64,
+}
+
 // What reading hands back; refusal 3 carries `start` and `end`.
 #[repr(C)]
 pub struct PusmarkeNak {

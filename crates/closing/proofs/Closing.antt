@@ -9,16 +9,18 @@ use lib.ListN.{length}
 use Rattle.ranges.specs.Range.{Range, range, Covers}
 use Rattle.ranges.specs.Store.{mostPairs}
 use Rattle.ranges.specs.declared.Width.{Width}
-use Rattle.nak.specs.Writer.{isBadIdentity}
 use Rattle.reception.specs.History.{Event, Data, Metadata, Eof, State, fresh, isAccepted, step, run, metadataCame, toldSize, keptBy, keptFrom, rangesOf}
+use Rattle.reception.proofs.Records.{mark-metadata}
 use Rattle.reception.proofs.Histories.{missing-exact}
+use Rattle.holding.specs.Whole.{AllWhole, NoneRefused}
 use Rattle.holding.proofs.Histories.{filled}
+use Rattle.holding.proofs.Whole.{whole-taken}
 use Rattle.sequence.specs.Entries.{Asking, roundedUp}
-use Rattle.sequence.specs.Sequence.{Order, isBadSize, isTooLarge, asked}
+use Rattle.sequence.specs.Sequence.{Order, Allowed, asked}
 use Rattle.sequence.specs.Calls.{Call, AllFit, octetsBy, budgets}
 use Rattle.sequence.specs.Parted.{parted, requestsRead}
-use Rattle.sequence.proofs.Named.{names-missing}
-use Rattle.closing.specs.Arrival.{dataOf, Arrives, NoneRefused}
+use Rattle.sequence.proofs.Named.{requests, names-missing}
+use Rattle.closing.specs.Arrival.{dataOf, Arrives}
 
 -- an accepted event keeps its data and what the later ones keep
 own-kept : (t : Bool) (o n x : ℕ) (rs : List Range) → t ≡ true → Covers x (range o (o + n) ∷ rs) → Covers x (keptBy (t && true) (Data o n) rs)
@@ -44,9 +46,7 @@ module _
     (w : Width) (xs : List ℕ) (N : ℕ) (size : length xs ≡ 2 * N) (few : N ≤ mostPairs) (es : List Event)
     (known : metadataCame (fresh w xs) es ≡ true) (z : ℕ) (told : toldSize (fresh w xs) es ≡ z ∷ [])
     (o : Order)
-    (id : isBadIdentity (o .identity) ≡ false)
-    (sz : isBadSize o ≡ false)
-    (lg : isTooLarge (run (fresh w xs) es .rec) (run (fresh w xs) es .list) (o .form) ≡ false)
+    (ok : Allowed (run (fresh w xs) es .rec) (run (fresh w xs) es .list) o)
     (cs : List Call) (fit : AllFit o cs)
     (enough : roundedUp (length (asked (run (fresh w xs) es .rec) (run (fresh w xs) es .list) o .entries))
     (asked (run (fresh w xs) es .rec) (run (fresh w xs) es .list) o .each) ≤ budgets cs)
@@ -59,12 +59,24 @@ module _
     octets = octetsBy (reached .rec) (reached .list) o 0 cs
 
     -- whatever comes, if none of it is refused and its data covers the requests, the list is empty
-    pub closes-covered : (ds : List Event) → ((x : ℕ) → Covers x (requestsRead (parted octets)) → Covers x (dataOf ds)) → NoneRefused reached ds
+    pub closes-covered : (ds : List Event) → ((x : ℕ) → Covers x (requestsRead (o .form .edition) (parted octets)) → Covers x (dataOf ds)) → NoneRefused reached ds
         → rangesOf (run reached ds) ≡ []
     closes-covered ds f a =
         filled w xs N size few es known z told ds
-        (λ x c. all-kept ds reached x a (f x (names-missing w xs N size few es o id sz lg cs fit enough x .1 (missing-exact w xs N size few es x .0 c))))
+        (λ x c. all-kept ds reached x a (f x (names-missing w xs N size few es o ok cs fit enough x .1 (missing-exact w xs N size few es x .0 c))))
 
     -- the data for every request arrives
-    pub closes : (ds : List Event) → Arrives (requestsRead (parted octets)) ds → NoneRefused reached ds → rangesOf (run reached ds) ≡ []
+    pub closes : (ds : List Event) → Arrives (requestsRead (o .form .edition) (parted octets)) ds → NoneRefused reached ds → rangesOf (run reached ds) ≡ []
     closes ds h a = closes-covered ds (h .covered) a
+
+    -- the metadata is known, so the requests read are the list's ranges
+    requests-are : requestsRead (o .form .edition) (parted octets) ≡ rangesOf reached
+    requests-are = requests w xs N size few es o ok cs fit enough ∙ rw (mark-metadata w xs es, known)
+
+    -- requests that come whole, in any order and repeated, are never refused; so where all of them come, the list is empty
+    pub closes-whole : (ds : List Event) → AllWhole (requestsRead (o .form .edition) (parted octets)) ds
+        → ((x : ℕ) → Covers x (requestsRead (o .form .edition) (parted octets)) → Covers x (dataOf ds))
+        → NoneRefused reached ds × (rangesOf (run reached ds) ≡ [])
+    closes-whole ds a f =
+        let n = whole-taken w xs N size few es known z told ds (rw requests-are at a) in
+        (n, closes-covered ds f n)

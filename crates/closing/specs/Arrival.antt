@@ -1,10 +1,8 @@
 -- The data for the requests of a sequence arrives (document 02, C-24).
 use Prim.Native.Nat.{ℕ, _+_, _≤_}
-use mathlib.Core.Path.{_≡_}
-use mathlib.Core.Bool.{true}
 use mathlib.Core.List.{List, [], _∷_, List·Memᴰ}
 use Rattle.ranges.specs.Range.{Range, range, Covers}
-use Rattle.reception.specs.History.{Event, Data, Metadata, Eof, State, isAccepted, step}
+use Rattle.reception.specs.History.{Event, Data, Metadata, Eof}
 
 -- The event is data that lies inside one of the requests.
 abbrev pub InsideOne : List Range → Event → Type 0
@@ -24,8 +22,3 @@ dataOf (Eof z ∷ es) = dataOf es
 pub record Arrives (rs : List Range) (es : List Event) : Type 0 where
   pub inside : (e : Event) → List·Memᴰ e es → InsideOne rs e
   pub covered : (x : ℕ) → Covers x rs → Covers x (dataOf es)
-
--- None is refused, each judged at its turn.
-abbrev pub NoneRefused : State → List Event → Type 0
-NoneRefused s [] = Unit
-NoneRefused s (e ∷ es) = (isAccepted s e ≡ true) × NoneRefused (step s e) es

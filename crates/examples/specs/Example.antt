@@ -13,6 +13,7 @@ use Rattle.segment_store.specs.Add.{addOutcome, addList}
 use Rattle.segment_store.specs.Remove.{removeOutcome, removeList}
 use Rattle.segment_store.specs.Coalesce.{coalesceOutcome, coalesceList}
 use Rattle.reception.specs.History.{Event, State, fresh, outcome, step, run}
+use Rattle.nak.specs.declared.Edition.the-variants.{Newer}
 use Rattle.nak.specs.declared.Form.{Form}
 use Rattle.nak.specs.declared.Identity.{Identity}
 use Rattle.nak.specs.Pdu.{Nak}
@@ -60,7 +61,7 @@ anyIdentity = record { «entity_length» = 1; «number_length» = 1; source = 1;
 
 -- The large file flag normal; no scope depends on it.
 abbrev pub anyForm : Form
-anyForm = record { flag = Normal }
+anyForm = record { edition = Newer; flag = Normal }
 
 -- The PDUs of a call from cursor 0 on with a budget of 16; the largest PDU has its say in the number of requests alone.
 abbrev pub sentBy : Asking → List Nak

@@ -4,6 +4,7 @@ use io::print_decimal;
 use io::print_hex;
 use io::write_all;
 use libc::STDOUT_FILENO;
+use nak::Edition;
 use nak::Form;
 use nak::Identity;
 use nak::writer::WriteAnswer;
@@ -51,9 +52,10 @@ fn example_identity() -> Identity {
     }
 }
 
-// Numbers of four octets.
+// The newer edition, numbers of four octets.
 fn normal_form() -> Form {
     Form {
+        edition: Edition::Newer,
         flag: LargeFileFlag::Normal,
     }
 }
@@ -105,7 +107,7 @@ fn show_requests(packet: &[u8], from: usize) {
 
 // Reads a packet, and shows what it says, or the refusal.
 fn show_read(packet: &[u8]) {
-    let parsed = nak_parser::parse(packet);
+    let parsed = nak_parser::parse(packet, Edition::Newer);
     if parsed.refusal != 0 {
         write_all(STDOUT_FILENO, b"refused");
         show_number(parsed.refusal);

@@ -1,3 +1,4 @@
 pub mod Count
 pub mod Held
 pub mod MissingOctets
+pub mod Whole

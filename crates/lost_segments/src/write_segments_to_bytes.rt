@@ -7,7 +7,7 @@ ghost use lib.ListN.{length, take};
 ghost use Rattle.ranges.specs.Store.{anyAbove};
 ghost use Rattle.outcomes.specs.Outcome.{accepted};
 ghost use Rattle.outcomes.specs.Checks.{firstOf, verdictCase};
-ghost use Rattle.segment_store.specs.WriteSegmentsToBytes.{writeCase, writeChecks, writeOutcome, writeBuffer};
+ghost use Rattle.segment_store.specs.WriteSegmentsToBytes.{toBytesCase, toBytesChecks, toBytesOutcome, toBytesBuffer};
 use octets::LargeFileFlag;
 use octets::inner::put_all;
 use outcomes::Refusal;
@@ -29,7 +29,7 @@ fn any_too_large(list: &[u64], end: usize, top: u64, largest: u64) -> bool
 
 // The checks of write_segments_to_bytes, in order, for a buffer of `given` octets.
 fn write_checks(st: Store, list: &[u64], flag: LargeFileFlag, given: usize) -> Verdict
-    ensures { λ r. ⌜ verdictCase r ≡ firstOf (writeChecks (now (list .entry)) st flag given) (accepted []) ⌝ }
+    ensures { λ r. ⌜ verdictCase r ≡ firstOf (toBytesChecks (now (list .entry)) st flag given) (accepted []) ⌝ }
 {
     let count = st.count;
     let width = st.width;
@@ -55,8 +55,8 @@ pub fn write_segments_to_bytes(
     buf: &mut [u8],
     flag: LargeFileFlag,
 ) -> WriteAnswer
-    ensures { λ r. ⌜ writeCase r ≡ writeOutcome (now (list .entry)) st flag (now (buf .entry)) ⌝ }
-    ensures { λ _. ⌜ now (buf .exit) ≡ writeBuffer (now (list .entry)) st flag (now (buf .entry)) ⌝ }
+    ensures { λ r. ⌜ toBytesCase r ≡ toBytesOutcome (now (list .entry)) st flag (now (buf .entry)) ⌝ }
+    ensures { λ _. ⌜ now (buf .exit) ≡ toBytesBuffer (now (list .entry)) st flag (now (buf .entry)) ⌝ }
 {
     let given = buf.len();
     let found = write_checks(st, list, flag, given);

@@ -20,6 +20,7 @@ use Rattle.outcomes.specs.declared.Refusal.the-variants as refusal
 use Rattle.octets.specs.Octets.{fits}
 use Rattle.octets.specs.Flag.{largestOf}
 use Rattle.nak.specs.declared.Identity.{Identity}
+use Rattle.nak.specs.Header.{isReservedSet}
 use Rattle.nak.specs.Pdu.{Nak, pdu}
 use Rattle.nak.specs.Request.{requestsChecks}
 use Rattle.nak.specs.Inner.{entries, GoodLengths}
@@ -103,6 +104,7 @@ all-entries xs e =
 -- what a NAK that is not refused says
 pub record NakFine (n : Nak) : Type 0 where
   pub identity : isBadIdentity (n .identity) ≡ false
+  pub reserved : isReservedSet (n .form .edition) (n .form .flag) ≡ false
   pub scope : n .scope .start ≤ n .scope .end
   pub requests : NoneOf (requestsChecks (n .requests))
   pub numbers : anyAbove (largestOf (n .form .flag)) (numbersOf n) ≡ false
@@ -112,14 +114,15 @@ none-nak : (n : Nak) → NakFine n → NoneOf (nakChecks n)
 none-nak n f =
     let scope = le-ltb (n .scope .end) (n .scope .start) (f .scope) in
     let size = le-ltb largestPdu (length (pdu n)) (f .size) in
-    (f .identity, (scope, none-both (requestsChecks (n .requests)) _ (f .requests) (f .numbers, (size, tt))))
+    (f .identity, (f .reserved, (scope, none-both (requestsChecks (n .requests)) _ (f .requests) (f .numbers, (size, tt)))))
 
 nak-none : (n : Nak) → NoneOf (nakChecks n) → NakFine n
 nak-none n m =
-    let w = none-append (requestsChecks (n .requests)) _ (m .1 .1) in
+    let w = none-append (requestsChecks (n .requests)) _ (m .1 .1 .1) in
     record {
       identity = m .0;
-      scope = ltb-false (n .scope .end) (n .scope .start) (m .1 .0);
+      reserved = m .1 .0;
+      scope = ltb-false (n .scope .end) (n .scope .start) (m .1 .1 .0);
       requests = w .0;
       numbers = w .1 .0;
       size = ltb-false largestPdu (length (pdu n)) (w .1 .1 .0);
@@ -175,12 +178,13 @@ lastChecks n given =
     ∷ (not (eqb given (length (pdu n))), refusal.BufferSizeMissmatch (length (pdu n)) given)
     ∷ []
 
--- where 10, 13 and 18 are passed, the requests are asked, and then these
+-- where 10, 13, 15 and 18 are passed, the requests are asked, and then these
 pub from-requests :
     (xs : List ℕ) (n : Nak) (given : ℕ) (behind : Outcome)
     → isBadList xs ≡ false
     → isBadIdentity (n .identity) ≡ false
+    → isReservedSet (n .form .edition) (n .form .flag) ≡ false
     → n .scope .start ≤ n .scope .end
     → firstOf (writeChecks xs n given) behind ≡ firstOf (requestsChecks (n .requests)) (firstOf (lastChecks n given) behind)
-from-requests xs n given behind a b c =
-    rw (a, b, le-ltb (n .scope .end) (n .scope .start) c, append-assoc (requestsChecks (n .requests))) (first-append (requestsChecks (n .requests)) (lastChecks n given) behind)
+from-requests xs n given behind a b r c =
+    rw (a, b, r, le-ltb (n .scope .end) (n .scope .start) c, append-assoc (requestsChecks (n .requests))) (first-append (requestsChecks (n .requests)) (lastChecks n given) behind)

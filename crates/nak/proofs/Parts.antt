@@ -18,7 +18,7 @@ use Rattle.octets.proofs.Fields.{length-field, length-fields}
 use Rattle.nak.specs.declared.Form.{Form}
 use Rattle.nak.specs.declared.Identity.{Identity}
 use Rattle.nak.specs.Pdu.{Nak, headerOctets, identityOctets, dataOctets, dataField, header, front, pdu, headerLength, pduLength}
-use Rattle.nak.specs.Inner.{asked, pairsFrom, entries}
+use Rattle.nak.specs.Inner.{metadataFirst, pairsFrom, entries}
 use Rattle.nak.proofs.Flat.{flat-pairs}
 
 pub length-header : (g : Form) (i q n : ℕ) → length (headerOctets g i q n) ≡ 4
@@ -56,23 +56,23 @@ flat-from xs first count h =
     flat-pairs (take (2 * count) (drop (2 * first) xs)) (omega arith)
 
 -- the numbers of the requests of a PDU, and how many there are
-pub flat-entries : (m : Bool) (xs : List ℕ) (first count : ℕ) → 2 * first + 2 * count ≤ length xs → flat (entries m xs first count) ≡ flat (asked m) ++ take (2 * count) (drop (2 * first) xs)
-flat-entries m xs first count h = flat-append (asked m) (pairsFrom xs first count) ∙ ap (λ (l : List ℕ). flat (asked m) ++ l) (flat-from xs first count h)
+pub flat-entries : (m : Bool) (xs : List ℕ) (first count : ℕ) → 2 * first + 2 * count ≤ length xs → flat (entries m xs first count) ≡ flat (metadataFirst m) ++ take (2 * count) (drop (2 * first) xs)
+flat-entries m xs first count h = flat-append (metadataFirst m) (pairsFrom xs first count) ∙ ap (λ (l : List ℕ). flat (metadataFirst m) ++ l) (flat-from xs first count h)
 
-pub length-entries : (m : Bool) (xs : List ℕ) (first count : ℕ) → 2 * first + 2 * count ≤ length xs → length (flat (entries m xs first count)) ≡ length (flat (asked m)) + 2 * count
+pub length-entries : (m : Bool) (xs : List ℕ) (first count : ℕ) → 2 * first + 2 * count ≤ length xs → length (flat (entries m xs first count)) ≡ length (flat (metadataFirst m)) + 2 * count
 length-entries m xs first count h =
     let d = length-drop (2 * first) xs in
-    rw (flat-entries m xs first count h, length-append (flat (asked m)), length-take-le (2 * count) (drop (2 * first) xs) (omega arith))
+    rw (flat-entries m xs first count h, length-append (flat (metadataFirst m)), length-take-le (2 * count) (drop (2 * first) xs) (omega arith))
 
 -- how much room each part of the data field takes
-pub data-room : (f : ℕ) (m : Bool) (count : ℕ) → f * (2 + (length (flat (asked m)) + 2 * count)) ≡ 2 * f + length (fields f (flat (asked m))) + f * (2 * count)
-data-room f m count = rw (length-fields f (flat (asked m)), mul-add, mul-add) (omega arith)
+pub data-room : (f : ℕ) (m : Bool) (count : ℕ) → f * (2 + (length (flat (metadataFirst m)) + 2 * count)) ≡ 2 * f + length (fields f (flat (metadataFirst m))) + f * (2 * count)
+data-room f m count = rw (length-fields f (flat (metadataFirst m)), mul-add, mul-add) (omega arith)
 
 -- two numbers for the metadata request
-pub length-asked : (f : ℕ) → length (fields f (flat (asked true))) ≡ f + f
+pub length-asked : (f : ℕ) → length (fields f (flat (metadataFirst true))) ≡ f + f
 length-asked f = rw (length-append (field f 0), length-field f 0) (rw (length-append (field f 0), length-field f 0) (omega arith))
 
-pub asked-room : (m : Bool) (f : ℕ) → m ≡ true → length (fields f (flat (asked m))) ≡ f + f
+pub asked-room : (m : Bool) (f : ℕ) → m ≡ true → length (fields f (flat (metadataFirst m))) ≡ f + f
 asked-room m f e = rw e (length-asked f)
 
 -- a data field is at least as long as the number of its numbers

@@ -14,10 +14,17 @@ use Rattle.octets.proofs.Fields.{length-field, fields-append}
 use Rattle.octets.proofs.Over.{over-then}
 use Rattle.nak.specs.declared.Form.{Form}
 use Rattle.nak.specs.declared.Identity.{Identity}
-use Rattle.nak.specs.Header.{flagBit, octet0, octet3}
+use Rattle.nak.specs.declared.Edition.{Edition}
+use Rattle.nak.specs.declared.Edition.the-variants.{Older, Newer}
+use Rattle.nak.specs.Header.{fixed0, flagBit, octet0, octet3}
 use Rattle.nak.specs.Pdu.{Nak, nakCode, headerOctets, identityOctets, dataOctets, dataField, pdu}
-use Rattle.nak.specs.Inner.{asked, entries}
+use Rattle.nak.specs.Inner.{metadataFirst, entries}
 use Rattle.nak.proofs.Parts.{length-header, length-identity, pdu-front, flat-entries}
+
+-- octet 0's parts are small
+pub fixed-low : (e : Edition) → fixed0 e ≤ 40
+fixed-low Older = omega arith
+fixed-low Newer = omega arith
 
 pub flag-low : (g : LargeFileFlag) → flagBit g ≤ 1
 flag-low Normal = omega arith
@@ -64,7 +71,7 @@ pub asked-puts :
     → ys ≡ withOctets xs at (field f 0)
     → zs ≡ withOctets ys (at + f) (field f 0)
     → at + f ≤ length xs
-    → zs ≡ withOctets xs at (fields f (flat (asked true)))
+    → zs ≡ withOctets xs at (fields f (flat (metadataFirst true)))
 asked-puts xs at f e h k =
     let l = length-field f 0 in
     over-then xs at (at + f) (field f 0) (field f 0) e h (omega arith) k ∙ ap (λ (os : List ℕ). withOctets xs at (field f 0 ++ os)) (sym (append-nil (field f 0)))
@@ -74,17 +81,17 @@ pub data-puts :
     → v ≡ withOctets xs at (field 1 nakCode)
     → w ≡ withOctets v (at + 1) (field f s)
     → y ≡ withOctets w (at + 1 + f) (field f e)
-    → z ≡ withOctets y (at + 1 + f + f) (fields f (flat (asked m)))
-    → place ≡ at + 1 + f + f + length (fields f (flat (asked m)))
+    → z ≡ withOctets y (at + 1 + f + f) (fields f (flat (metadataFirst m)))
+    → place ≡ at + 1 + f + f + length (fields f (flat (metadataFirst m)))
     → u ≡ withOctets z place (fields f (take (2 * count) (drop (2 * first) list)))
     → 2 * first + 2 * count ≤ length list
-    → at + (1 + 2 * f + length (fields f (flat (asked m)))) ≤ length xs
+    → at + (1 + 2 * f + length (fields f (flat (metadataFirst m)))) ≤ length xs
     → u ≡ withOctets xs at (dataOctets f (range s e) (entries m list first count))
 unfolding dataOctets
 data-puts xs list at f s e m first count {place} h1 h2 h3 h4 h5 h6 k r =
     let n = take (2 * count) (drop (2 * first) list) in
     let c : List ℕ = field 1 nakCode in
-    let a = fields f (flat (asked m)) in
+    let a = fields f (flat (metadataFirst m)) in
     let ls = length-field f s in
     let le = length-field f e in
     let l1 : length (c ++ field f s) ≡ 1 + f = length-append c (field f s) ∙ omega arith in
@@ -94,7 +101,7 @@ data-puts xs list at f s e m first count {place} h1 h2 h3 h4 h5 h6 k r =
     let t2 = over-then xs at (at + 1 + f) (c ++ field f s) (field f e) t1 h3 (omega arith) (omega arith) in
     let t3 = over-then xs at (at + 1 + f + f) (c ++ field f s ++ field f e) a t2 h4 (omega arith) (omega arith) in
     let t4 = over-then xs at place (c ++ field f s ++ field f e ++ a) (fields f n) t3 h6 (omega arith) (omega arith) in
-    t4 ∙ ap (withOctets xs at) (rw (flat-entries m list first count k, fields-append f (flat (asked m))) (simp append-assoc))
+    t4 ∙ ap (withOctets xs at) (rw (flat-entries m list first count k, fields-append f (flat (metadataFirst m))) (simp append-assoc))
 
 pub pdu-puts :
     (xs : List ℕ) (at : ℕ) (n : Nak) {len place : ℕ} {ys zs ws : List ℕ}

@@ -8,8 +8,8 @@ use Rattle.ranges.specs.Range.{Range, range}
 use Rattle.ranges.specs.Store.{pairs}
 
 -- The metadata request, where it is asked for.
-abbrev pub asked : Bool → List Range
-asked m = cond m (range 0 0 ∷ []) []
+abbrev pub metadataFirst : Bool → List Range
+metadataFirst m = cond m (range 0 0 ∷ []) []
 
 -- The pairs of a flat list from `first` on, `count` of them.
 abbrev pub pairsFrom : List ℕ → ℕ → ℕ → List Range
@@ -17,7 +17,7 @@ pairsFrom xs first count = pairs (take (2 * count) (drop (2 * first) xs))
 
 -- The requests of a PDU: the one for metadata first, where it is asked for, and then those of the list.
 abbrev pub entries : Bool → List ℕ → ℕ → ℕ → List Range
-entries m xs first count = asked m ++ pairsFrom xs first count
+entries m xs first count = metadataFirst m ++ pairsFrom xs first count
 
 -- Identifier lengths of 1 to 8.
 pub record GoodLengths (d : Identity) : Type 0 where

@@ -14,6 +14,7 @@ use Rattle.octets.specs.Flag.{largestOf}
 use Rattle.nak.specs.declared.Identity.{Identity}
 use Rattle.nak.specs.declared.writer.WriteAnswer.{WriteAnswer}
 use Rattle.nak.specs.declared.writer.WriteAnswer.the-variants.{Written, Refused}
+use Rattle.nak.specs.Header.{isReservedSet}
 use Rattle.nak.specs.Pdu.{Nak, pdu}
 use Rattle.nak.specs.Request.{requestsChecks}
 
@@ -40,10 +41,11 @@ isBadIdentity d =
 abbrev pub numbersOf : Nak → List ℕ
 numbersOf n = n .scope .start ∷ n .scope .end ∷ flat (n .requests)
 
--- What a NAK may say: 13, 18, each request in order, 7 for scope or request, 14 (total above 4,096).
+-- What a NAK may say: 13, 15 (document 02, C-20), 18, each request in order, 7 for scope or request, 14 (total above 4,096).
 abbrev pub nakChecks : Nak → List Check
 nakChecks n =
     (isBadIdentity (n .identity), refusal.BadIdentity)
+    ∷ (isReservedSet (n .form .edition) (n .form .flag), refusal.BadHeader)
     ∷ (ltb (n .scope .end) (n .scope .start), refusal.ScopeReversed)
     ∷ requestsChecks (n .requests)
     ++ ((anyAbove (largestOf (n .form .flag)) (numbersOf n), refusal.LargeSegmentForNormalFileSize) ∷ (ltb largestPdu (length (pdu n)), refusal.PduSize) ∷ [])

@@ -2,6 +2,7 @@
 use octets::LargeFileFlag;
 ghost use mathlib.Core.Path.{_≡_};
 ghost use Rattle.octets.specs.Flag.{fieldLength, largestOf};
+ghost use Rattle.nak.specs.Header.{isReservedSet};
 
 pub mod inner;
 pub mod writer;
@@ -9,14 +10,19 @@ pub mod writer;
 // A PDU has at most 4,096 octets.
 pub const LARGEST_PDU: usize = 4096;
 
-// Octet 0 but for its lowest bit, the large file flag: `fixed0` in specs/Header.antt.
-pub const FIXED_BITS: u8 = 40;
-
 // The directive code of a NAK.
 pub const NAK_CODE: u8 = 8;
 
-// What a link fixes about the shape of a PDU: whether its numbers have four octets or eight.
+// The issue of 727.0-B that a link speaks. The older one has other version bits, and a reserved bit where the newer one has the large
+// file flag.
+pub enum Edition {
+    Older,
+    Newer,
+}
+
+// What a link fixes about the shape of a PDU: its edition, and whether its numbers have four octets or eight.
 pub struct Form {
+    pub edition: Edition,
     pub flag: LargeFileFlag,
 }
 
@@ -35,6 +41,21 @@ impl Form {
     {
         let flag = self.flag;
         flag.largest()
+    }
+
+    // 15: whether the reserved bit of the older edition would be set.
+    pub fn reserved_set(self) -> bool
+        ensures { λ r. ⌜ r ≡ isReservedSet (self .edition) (self .flag) ⌝ }
+    {
+        let edition = self.edition;
+        let flag = self.flag;
+        match edition {
+            Edition::Older => match flag {
+                LargeFileFlag::Normal => false,
+                LargeFileFlag::Large => true,
+            },
+            Edition::Newer => false,
+        }
     }
 }
 

@@ -42,6 +42,9 @@ pub fn write_checks(
     if bad_identity(identity) {
         return Verdict::Refused(Refusal::BadIdentity);
     }
+    if form.reserved_set() {
+        return Verdict::Refused(Refusal::BadHeader);
+    }
     if end < start {
         return Verdict::Refused(Refusal::ScopeReversed);
     }

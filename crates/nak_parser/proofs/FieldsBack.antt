@@ -1,10 +1,10 @@
 -- Reading a PDU: each field that was written comes back.
 use mathlib.Core.Path.{_≡_, refl, sym, ap, _∙_}
-use mathlib.Core.Bool.{false, not}
+use mathlib.Core.Bool.{true, false, not, true≢false}
 use mathlib.Core.List.{List, [], _∷_, _++_, append-assoc}
 use Prim.Native.Nat.{ℕ, _+_, _*_, _-_, _/_, _%_, _^_, _≤_, _<_}
 use native.Mathlib.Omega.{arith}
-use lib.Dec.{ltb}
+use lib.Dec.{ltb, eqb}
 use lib.ListN.{length, getD, drop, length-append}
 use lib.Seq.{take-at, drop-at, getD-at}
 use borrow.Author.Tests.{ltb-false, le-ltb, eq-eqb, ne-eqb}
@@ -19,13 +19,15 @@ use Rattle.octets.specs.declared.LargeFileFlag.{LargeFileFlag}
 use Rattle.octets.specs.declared.LargeFileFlag.the-variants.{Normal, Large}
 use Rattle.octets.proofs.Fields.{length-field, got-put}
 use Rattle.octets.proofs.Largest.{largest-fits}
+use Rattle.nak.specs.declared.Edition.{Edition}
+use Rattle.nak.specs.declared.Edition.the-variants.{Older, Newer}
 use Rattle.nak.specs.declared.Form.{Form}
-use Rattle.nak.specs.Header.{wrongFixed, fixed0, flagBit, octet0, octet3, flagOf, formOf}
+use Rattle.nak.specs.Header.{wrongFixed, fixed0, flagBit, octet0, octet3, isReservedSet, flagOf}
 use Rattle.nak.specs.Pdu.{Nak, nakCode, headerOctets, identityOctets, dataOctets, header, dataField, pdu}
 use Rattle.nak.specs.Inner.{GoodLengths}
 use Rattle.nak.proofs.Parts.{length-header, length-data, pdu-front, length-pdu}
 use Rattle.nak.proofs.Checks.{good-lengths, GoodNumbers, good-numbers, NakFine}
-use Rattle.nak_parser.specs.Parser.{octetAt, fieldAt, packetForm, fieldLengthIn, entityLengthIn, numberLengthIn, headerLengthIn, lengthField, scopeAt, requestsAt, requestsIn, packetIdentity, scopeIn, packetRequests, nakIn, wrongLength, wrongData, readOutcome}
+use Rattle.nak_parser.specs.Parser.{octetAt, fieldAt, packetFlag, packetForm, fieldLengthIn, entityLengthIn, numberLengthIn, headerLengthIn, lengthField, scopeAt, requestsAt, requestsIn, packetIdentity, scopeIn, packetRequests, nakIn, wrongLength, wrongData, readOutcome}
 use Rattle.nak_parser.proofs.Reading.{header-is, Shape, shape-of, read-fine}
 
 -- the number of a field that stands behind x
@@ -60,12 +62,11 @@ requests-back g (r ∷ rs) h =
     let w : drop (2 * f) (s ++ (e ++ z)) ≡ z = rest-back (s ++ e) z (2 * f) (sym (append-assoc s e z)) l in
     rw (x, y, w, requests-back g rs (b .1))
 
-flag-of : (f : LargeFileFlag) → flagOf ((fixed0 + flagBit f) % 256) ≡ f
-flag-of Normal = refl
-flag-of Large = refl
-
-form-of : (g : Form) → formOf (octet0 g % 256) ≡ g
-form-of g = let e = flag-of (g .flag) in rw e
+flag-of : (e : Edition) (f : LargeFileFlag) → flagOf ((fixed0 e + flagBit f) % 256) ≡ f
+flag-of Older Normal = refl
+flag-of Older Large = refl
+flag-of Newer Normal = refl
+flag-of Newer Large = refl
 
 -- how many requests there are room for
 count-is : (g : LargeFileFlag) (h k : ℕ) → (h + (1 + fieldLength g * (2 + 2 * k)) - (h + 1 + 2 * fieldLength g)) / (2 * fieldLength g) ≡ k
@@ -80,25 +81,37 @@ room-is : (g : LargeFileFlag) (k : ℕ) → 1 + 2 * fieldLength g ≤ 1 + fieldL
 room-is Normal k = omega arith
 room-is Large k = omega arith
 
-fixed-right : (g : Form) (i q : ℕ) → 1 ≤ i → i ≤ 8 → 1 ≤ q → q ≤ 8 → wrongFixed (octet0 g % 256) (octet3 i q % 256) ≡ false
+fixed-right : (g : Form) (i q : ℕ) → isReservedSet (g .edition) (g .flag) ≡ false → 1 ≤ i → i ≤ 8 → 1 ≤ q → q ≤ 8
+    → wrongFixed (g .edition) (octet0 g % 256) (octet3 i q % 256) ≡ false
 unfolding wrongFixed
-fixed-right g i q a b c d = go (g .flag)
+fixed-right g i q r a b c d = go (g .edition) (g .flag) r
   where
-    go : (f : LargeFileFlag) → wrongFixed ((fixed0 + flagBit f) % 256) (octet3 i q % 256) ≡ false
-    go Normal = rw (eq-eqb (octet3 i q % 256 / 128 * 128 + octet3 i q % 256 / 8 % 2 * 8) 0 (omega arith))
-    go Large = rw (eq-eqb (octet3 i q % 256 / 128 * 128 + octet3 i q % 256 / 8 % 2 * 8) 0 (omega arith))
+    lengths-right : eqb (octet3 i q % 256 / 128 * 128 + octet3 i q % 256 / 8 % 2 * 8) 0 ≡ true
+    lengths-right = eq-eqb (octet3 i q % 256 / 128 * 128 + octet3 i q % 256 / 8 % 2 * 8) 0 (omega arith)
+
+    go : (e : Edition) (f : LargeFileFlag) → isReservedSet e f ≡ false → wrongFixed e ((fixed0 e + flagBit f) % 256) (octet3 i q % 256) ≡ false
+    go Older Normal h = rw lengths-right
+    go Older Large h = absurd (true≢false h)
+    go Newer Normal h = rw lengths-right
+    go Newer Large h = rw lengths-right
 
 module _ (n : Nak) (fine : NakFine n) where
   lengths : GoodLengths (n .identity)
   lengths = good-lengths (n .identity) (fine .identity)
 
-  pub form-back : packetForm (pdu n) ≡ n .form
-  unfolding packetForm pdu headerOctets
-  form-back = form-of (n .form)
+  abbrev edition : Edition
+  edition = n .form .edition
+
+  flag-back : packetFlag (pdu n) ≡ n .form .flag
+  unfolding packetFlag pdu headerOctets
+  flag-back = flag-of edition (n .form .flag)
+
+  pub form-back : packetForm edition (pdu n) ≡ n .form
+  form-back = rw flag-back
 
   pub field-length-back : fieldLengthIn (pdu n) ≡ fieldLength (n .form .flag)
   unfolding fieldLengthIn
-  field-length-back = ap (λ (g : Form). fieldLength (g .flag)) form-back
+  field-length-back = ap fieldLength flag-back
 
   pub entity-length-back : entityLengthIn (pdu n) ≡ n .identity .«entity_length»
   unfolding entityLengthIn pdu headerOctets
@@ -241,12 +254,12 @@ module _ (n : Nak) (fine : NakFine n) where
       rw (rest, requests-at-back, field-length-back, total, count-is (n .form .flag) (headerLengthIn (pdu n)) (length (n .requests))) (requests-back (n .form .flag) (n .requests) (b .1))
 
   -- reading what was written gives back every field, the requests in order and the form included
-  pub nak-back : nakIn (pdu n) ≡ n
-  nak-back = rw (form-back, identity-back, scope-back, requests-of-back)
+  pub nak-back : nakIn edition (pdu n) ≡ n
+  nak-back = rw (flag-back, identity-back, scope-back, requests-of-back)
 
-  fixed-back : wrongFixed (octetAt (pdu n) 0) (octetAt (pdu n) 3) ≡ false
+  fixed-back : wrongFixed edition (octetAt (pdu n) 0) (octetAt (pdu n) 3) ≡ false
   unfolding pdu headerOctets
-  fixed-back = let l = lengths in fixed-right (n .form) _ _ (l .entity-low) (l .entity-high) (l .number-low) (l .number-high)
+  fixed-back = let l = lengths in fixed-right (n .form) _ _ (fine .reserved) (l .entity-low) (l .entity-high) (l .number-low) (l .number-high)
 
   right-length-back : wrongLength (pdu n) ≡ false
   unfolding wrongLength
@@ -260,12 +273,12 @@ module _ (n : Nak) (fine : NakFine n) where
   unfolding wrongData
   right-data-back = rw (length-field-back, data-length, field-length-back, le-ltb _ _ (room-is (n .form .flag) (length (n .requests))), whole-is (n .form .flag) (length (n .requests)))
 
-  pub shape-back : Shape (pdu n)
+  pub shape-back : Shape edition (pdu n)
   shape-back =
       let enough = le-ltb (length (pdu n)) 4 (let l = length-pdu n in omega arith) in
       let code = ap not (eq-eqb (octetAt (pdu n) (headerLengthIn (pdu n))) nakCode code-back) in
-      shape-of (pdu n) (enough, (fixed-back, (right-length-back, (code, (right-data-back, tt)))))
+      shape-of edition (pdu n) (enough, (fixed-back, (right-length-back, (code, (right-data-back, tt)))))
 
   -- every PDU of fields within the limits is accepted
-  pub read-back : readOutcome (pdu n) ≡ accepted []
-  read-back = read-fine (pdu n) shape-back (rw scope-back (fine .scope)) (rw requests-of-back (fine .requests)) (fine .size)
+  pub read-back : readOutcome edition (pdu n) ≡ accepted []
+  read-back = read-fine edition (pdu n) shape-back (rw scope-back (fine .scope)) (rw requests-of-back (fine .requests)) (fine .size)

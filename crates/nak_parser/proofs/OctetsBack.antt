@@ -17,10 +17,12 @@ use Rattle.octets.specs.Flag.{fieldLength}
 use Rattle.octets.specs.declared.LargeFileFlag.{LargeFileFlag}
 use Rattle.octets.specs.declared.LargeFileFlag.the-variants.{Normal, Large}
 use Rattle.octets.proofs.Fields.{put-got, number-below, octets-take, octets-drop}
-use Rattle.nak.specs.Header.{wrongFixed, fixed0, fixedBits0, fixedBits3, octet0, octet3, formOf, entityLengthOf, numberLengthOf}
+use Rattle.nak.specs.declared.Edition.{Edition}
+use Rattle.nak.specs.declared.Edition.the-variants.{Older, Newer}
+use Rattle.nak.specs.Header.{wrongFixed, fixed0, fixedBits0, fixedBits3, octet0, octet3, isReservedSet, flagOf, formOf, entityLengthOf, numberLengthOf}
 use Rattle.nak.specs.Pdu.{nakCode, headerOctets, identityOctets, dataOctets, dataField, pdu}
 use Rattle.nak.proofs.Parts.{length-data, pdu-front}
-use Rattle.nak_parser.specs.Parser.{octetAt, fieldAt, packetForm, fieldLengthIn, entityLengthIn, numberLengthIn, headerLengthIn, lengthField, scopeAt, requestsAt, requestsIn, packetIdentity, scopeIn, packetRequests, nakIn}
+use Rattle.nak_parser.specs.Parser.{octetAt, fieldAt, packetFlag, packetForm, fieldLengthIn, entityLengthIn, numberLengthIn, headerLengthIn, lengthField, scopeAt, requestsAt, requestsIn, packetIdentity, scopeIn, packetRequests, nakIn}
 use Rattle.nak_parser.proofs.Reading.{Read, header-is}
 
 -- an octet of octets is below 256
@@ -76,21 +78,25 @@ requests-forth f (suc k) os a h =
     let e = field-forth os f f (2 * f) a (omega arith) (omega arith) t in
     field-forth os 0 f f a (omega arith) (omega arith) e
 
-form-forth : (o0 o3 : ℕ) → wrongFixed o0 o3 ≡ false → octet0 (formOf o0) ≡ o0
+-- the fixed bits of octet 0
+pub bits-right : (v : Edition) (o0 o3 : ℕ) → wrongFixed v o0 o3 ≡ false → fixedBits0 v o0 ≡ fixed0 v
 unfolding wrongFixed
-form-forth o0 o3 e = go (eqb (o0 % 2) 0) refl
+bits-right v o0 o3 e = eqb-true (fixedBits0 v o0) (fixed0 v) (not-false _ (or-false (not (eqb (fixedBits0 v o0) (fixed0 v))) _ e .0))
+
+-- octet 0 is that of the form that it says, and no reserved bit of it is set
+form-forth : (v : Edition) (o0 o3 : ℕ) → wrongFixed v o0 o3 ≡ false → (octet0 (formOf v o0) ≡ o0) × (isReservedSet v (flagOf o0) ≡ false)
+form-forth v o0 o3 e = go v (bits-right v o0 o3 e) (eqb (o0 % 2) 0) refl
   where
-    bits : o0 / 2 * 2 ≡ 40
-    bits = eqb-true (fixedBits0 o0) fixed0 (not-false _ (or-false (not (eqb (fixedBits0 o0) fixed0)) _ e .0))
+    go : (v : Edition) → fixedBits0 v o0 ≡ fixed0 v → (t : Bool) → eqb (o0 % 2) 0 ≡ t → (octet0 (formOf v o0) ≡ o0) × (isReservedSet v (flagOf o0) ≡ false)
+    go Older b true z = rw z (omega (arith, b), refl)
+    go Older b false z = let k = eqb-false (o0 % 2) 0 z in absurd (omega (arith, b, k))
+    go Newer b true z = rw z (let k = eqb-true (o0 % 2) 0 z in omega (arith, b), refl)
+    go Newer b false z = rw z (let k = eqb-false (o0 % 2) 0 z in omega (arith, b), refl)
 
-    go : (t : Bool) → eqb (o0 % 2) 0 ≡ t → octet0 (formOf o0) ≡ o0
-    go true z = rw z (let k = eqb-true (o0 % 2) 0 z in omega (arith, bits))
-    go false z = rw z (let k = eqb-false (o0 % 2) 0 z in omega (arith, bits))
-
-lengths-forth : (o0 o3 : ℕ) → o3 < 256 → wrongFixed o0 o3 ≡ false → octet3 (entityLengthOf o3) (numberLengthOf o3) ≡ o3
+lengths-forth : (v : Edition) (o0 o3 : ℕ) → o3 < 256 → wrongFixed v o0 o3 ≡ false → octet3 (entityLengthOf o3) (numberLengthOf o3) ≡ o3
 unfolding wrongFixed
-lengths-forth o0 o3 h e =
-    let b : o3 / 128 * 128 + o3 / 8 % 2 * 8 ≡ 0 = eqb-true (fixedBits3 o3) 0 (not-false _ (or-false (not (eqb (fixedBits0 o0) fixed0)) _ e .1)) in
+lengths-forth v o0 o3 h e =
+    let b : o3 / 128 * 128 + o3 / 8 % 2 * 8 ≡ 0 = eqb-true (fixedBits3 o3) 0 (not-false _ (or-false (not (eqb (fixedBits0 v o0) (fixed0 v))) _ e .1)) in
     let d : o3 / 8 / 2 ≡ o3 / 16 = div-div-eq-div-mul o3 8 2 in
     let q : o3 / 8 % 2 ≡ 0 = omega arith in
     let m : o3 / 16 % 8 ≡ o3 / 16 = mod-eq-of-lt (omega arith) in
@@ -106,7 +112,7 @@ room-forth Normal total h len a b c = omega arith
 room-forth Large total h len a b c = omega arith
 
 -- F of a packet is that of its flag
-pub f-is : (p : List ℕ) → fieldLengthIn p ≡ fieldLength (packetForm p .flag)
+pub f-is : (p : List ℕ) → fieldLengthIn p ≡ fieldLength (packetFlag p)
 unfolding fieldLengthIn
 f-is p = refl
 
@@ -115,19 +121,19 @@ unfolding requestsAt scopeAt
 requests-at p = refl
 
 -- the octets behind the scope are those of whole requests
-pub requests-room : (p : List ℕ) → Read p → length p - requestsAt p ≡ (length p - requestsAt p) / (2 * fieldLengthIn p) * (2 * fieldLengthIn p)
-requests-room p r =
+pub requests-room : (v : Edition) (p : List ℕ) → Read v p → length p - requestsAt p ≡ (length p - requestsAt p) / (2 * fieldLengthIn p) * (2 * fieldLengthIn p)
+requests-room v p r =
     let t = r .shape in
-    rw (requests-at p, f-is p) (room-forth (packetForm p .flag) (length p) (headerLengthIn p) (lengthField p) (t .total) (rw (f-is p) at (t .room)) (rw (f-is p) at (t .whole)))
+    rw (requests-at p, f-is p) (room-forth (packetFlag p) (length p) (headerLengthIn p) (lengthField p) (t .total) (rw (f-is p) at (t .room)) (rw (f-is p) at (t .whole)))
 
-module _ (p : List ℕ) (a : AllOctets p) (r : Read p) where
+module _ (v : Edition) (p : List ℕ) (a : AllOctets p) (r : Read v p) where
   scope-at : scopeAt p ≡ headerLengthIn p + 1
   unfolding scopeAt
   scope-at = refl
 
   e6 : fields (fieldLengthIn p) (flat (packetRequests p)) ≡ drop (requestsAt p) p
   unfolding packetRequests
-  e6 = requests-forth (fieldLengthIn p) ((length p - requestsAt p) / (2 * fieldLengthIn p)) (drop (requestsAt p) p) (octets-drop (requestsAt p) p a) (length-drop (requestsAt p) p ∙ requests-room p r)
+  e6 = requests-forth (fieldLengthIn p) ((length p - requestsAt p) / (2 * fieldLengthIn p)) (drop (requestsAt p) p) (octets-drop (requestsAt p) p a) (length-drop (requestsAt p) p ∙ requests-room v p r)
 
   e5 : field (fieldLengthIn p) (scopeIn p .end) ++ fields (fieldLengthIn p) (flat (packetRequests p)) ≡ drop (scopeAt p + fieldLengthIn p) p
   unfolding scopeIn
@@ -137,11 +143,11 @@ module _ (p : List ℕ) (a : AllOctets p) (r : Read p) where
   unfolding scopeIn
   e4 = let t = r .shape in let w = scope-at in field-forth p (scopeAt p) (fieldLengthIn p) (scopeAt p + fieldLengthIn p) a refl (omega arith) e5
 
-  e3 : dataField (nakIn p) ≡ drop (headerLengthIn p) p
+  e3 : dataField (nakIn v p) ≡ drop (headerLengthIn p) p
   unfolding dataOctets fieldLengthIn
   e3 = let t = r .shape in let w = scope-at in octet-forth p (headerLengthIn p) (scopeAt p) nakCode a (sym (t .code)) (omega arith) (omega arith) e4
 
-  e0 : identityOctets (packetIdentity p) ++ dataField (nakIn p) ≡ drop 4 p
+  e0 : identityOctets (packetIdentity p) ++ dataField (nakIn v p) ≡ drop 4 p
   unfolding identityOctets packetIdentity
   e0 =
       let t = r .shape in
@@ -153,33 +159,37 @@ module _ (p : List ℕ) (a : AllOctets p) (r : Read p) where
       let e = field-forth p 4 i (4 + i) a refl (omega arith) e1 in
       simp append-assoc e
 
-  data-length : length (dataField (nakIn p)) ≡ lengthField p
+  data-length : length (dataField (nakIn v p)) ≡ lengthField p
   unfolding packetRequests
   data-length =
       let t = r .shape in
-      length-data (fieldLength (packetForm p .flag)) (scopeIn p) (packetRequests p)
+      length-data (fieldLength (packetFlag p)) (scopeIn p) (packetRequests p)
       ∙ rw (length-flat (packetRequests p), length-requests-in (fieldLengthIn p) ((length p - requestsAt p) / (2 * fieldLengthIn p)) (drop (requestsAt p) p), requests-at p, f-is p)
-      (count-forth (packetForm p .flag) (length p) (headerLengthIn p) (lengthField p) (t .total) (rw (f-is p) at (t .room)) (rw (f-is p) at (t .whole)))
+      (count-forth (packetFlag p) (length p) (headerLengthIn p) (lengthField p) (t .total) (rw (f-is p) at (t .room)) (rw (f-is p) at (t .whole)))
 
-  form-is : octet0 (packetForm p) ≡ octetAt p 0
-  unfolding packetForm
-  form-is = form-forth (octetAt p 0) (octetAt p 3) (r .shape .fixed)
+  form-is : octet0 (packetForm v p) ≡ octetAt p 0
+  unfolding packetFlag
+  form-is = form-forth v (octetAt p 0) (octetAt p 3) (r .shape .fixed) .0
+
+  pub reserved-in : isReservedSet v (packetFlag p) ≡ false
+  unfolding packetFlag
+  reserved-in = form-forth v (octetAt p 0) (octetAt p 3) (r .shape .fixed) .1
 
   lengths-are : octet3 (entityLengthIn p) (numberLengthIn p) ≡ octetAt p 3
   unfolding entityLengthIn numberLengthIn
-  lengths-are = lengths-forth (octetAt p 0) (octetAt p 3) (octet-low p 3 a) (r .shape .fixed)
+  lengths-are = lengths-forth v (octetAt p 0) (octetAt p 3) (octet-low p 3 a) (r .shape .fixed)
 
-  length-is : field 2 (length (dataField (nakIn p))) ≡ field 2 (fieldAt p 1 2)
+  length-is : field 2 (length (dataField (nakIn v p))) ≡ field 2 (fieldAt p 1 2)
   unfolding lengthField
   length-is = ap (field 2) data-length
 
   -- writing what was read gives back every octet: every accepted packet is the PDU of its fields
-  pub pdu-forth : pdu (nakIn p) ≡ p
+  pub pdu-forth : pdu (nakIn v p) ≡ p
   unfolding headerOctets packetIdentity
   pdu-forth =
       let t = r .shape in
       let n = t .enough in
       let h3 = octet-forth p 3 4 (octet3 (entityLengthIn p) (numberLengthIn p)) a lengths-are refl n e0 in
       let h1 = field-forth p 1 2 3 a refl (omega arith) h3 in
-      let h0 = octet-forth p 0 1 (octet0 (packetForm p)) a form-is refl (omega arith) (ap (λ (os : List ℕ). os ++ (field 1 (octet3 (entityLengthIn p) (numberLengthIn p)) ++ (identityOctets (packetIdentity p) ++ dataField (nakIn p)))) length-is ∙ h1) in
-      pdu-front (nakIn p) ∙ h0
+      let h0 = octet-forth p 0 1 (octet0 (packetForm v p)) a form-is refl (omega arith) (ap (λ (os : List ℕ). os ++ (field 1 (octet3 (entityLengthIn p) (numberLengthIn p)) ++ (identityOctets (packetIdentity p) ++ dataField (nakIn v p)))) length-is ∙ h1) in
+      pdu-front (nakIn v p) ∙ h0

@@ -10,6 +10,7 @@ use lib.Seq.{take-all}
 use borrow.Author.Tests.{eqb-true, eqb-false, ne-eqb, lt-ltb}
 use Rattle.outcomes.specs.Outcome.{accepted, lent}
 use Rattle.ranges.specs.Range.{Range, range}
+use Rattle.nak.specs.declared.Edition.{Edition}
 use Rattle.nak.specs.declared.Form.{Form}
 use Rattle.nak.specs.declared.Identity.{Identity}
 use Rattle.nak_parser.specs.declared.Parsed.{Parsed}
@@ -36,58 +37,58 @@ parsedWith d g s from to =
       next = from;
     }
 
-pub parsed-accepted : (p : List ℕ) → readOutcome p ≡ accepted [] → parsedOf p ≡ acceptedParsed p
+pub parsed-accepted : (v : Edition) (p : List ℕ) → readOutcome v p ≡ accepted [] → parsedOf v p ≡ acceptedParsed v p
 unfolding parsedOf
-parsed-accepted p e = rw e
+parsed-accepted v p e = rw e
 
-pub parsed-refused : (p : List ℕ) → (readOutcome p .number ≡ 0 → ⊥) → parsedOf p ≡ refusedParsed (readOutcome p) (length p)
+pub parsed-refused : (v : Edition) (p : List ℕ) → (readOutcome v p .number ≡ 0 → ⊥) → parsedOf v p ≡ refusedParsed v (readOutcome v p) (length p)
 unfolding parsedOf
-parsed-refused p h = rw (ne-eqb (readOutcome p .number) 0 h)
+parsed-refused v p h = rw (ne-eqb (readOutcome v p .number) 0 h)
 
 -- by the refusal
-pub parsed-by : (p : List ℕ) (r : Refusal) → refusing r ≡ readOutcome p → refusedParsed (refusing r) (length p) ≡ parsedOf p
+pub parsed-by : (v : Edition) (p : List ℕ) (r : Refusal) → refusing r ≡ readOutcome v p → refusedParsed v (refusing r) (length p) ≡ parsedOf v p
 unfolding parsedOf
-parsed-by p r e = rw (← e, refuses r)
+parsed-by v p r e = rw (← e, refuses r)
 
 -- of a packet below four octets
-pub short : (p : List ℕ) → length p < 4 → (refusing refusal.LengthMismatch) ≡ readOutcome p
+pub short : (v : Edition) (p : List ℕ) → length p < 4 → (refusing refusal.LengthMismatch) ≡ readOutcome v p
 unfolding readOutcome
-short p h = rw (lt-ltb (length p) 4 h)
+short v p h = rw (lt-ltb (length p) 4 h)
 
 -- the values that the code finds are those of the definition
 pub is-parsed :
-    (p : List ℕ) {d : Identity} {g : Form} {a b from : ℕ}
+    (v : Edition) (p : List ℕ) {d : Identity} {g : Form} {a b from : ℕ}
     → d ≡ packetIdentity p
-    → g ≡ packetForm p
+    → g ≡ packetForm v p
     → range a b ≡ scopeIn p
     → from ≡ requestsAt p
-    → parsedWith d g (range a b) from (length p) ≡ acceptedParsed p
+    → parsedWith d g (range a b) from (length p) ≡ acceptedParsed v p
 unfolding acceptedParsed
-is-parsed p d g s f =
+is-parsed v p d g s f =
     let start = ap (λ (r : Range). r .start) s in
     let end = ap (λ (r : Range). r .end) s in
     rw (d, g, start, end, f)
 
 -- the requests of an accepted packet start in it
-pub requests-in : (p : List ℕ) → Read p → requestsAt p ≤ length p
+pub requests-in : (v : Edition) (p : List ℕ) → Read v p → requestsAt p ≤ length p
 unfolding requestsAt scopeAt
-requests-in p r = let s = r .shape in omega arith
+requests-in v p r = let s = r .shape in omega arith
 
 -- where the part of the requests starts and ends
-pub record Part (p : List ℕ) : Type 0 where
-  pub from : parsedOf p .from ≡ lent (readOutcome p) (requestsAt p) 0
-  pub next : parsedOf p .next ≡ lent (readOutcome p) (requestsAt p) (length p)
-  pub ordered : parsedOf p .from ≤ parsedOf p .to
-  pub inside : parsedOf p .to ≤ length p
-  pub octets : take (parsedOf p .to - parsedOf p .from) (drop (parsedOf p .from) p) ≡ requestsPart p
+pub record Part (v : Edition) (p : List ℕ) : Type 0 where
+  pub from : parsedOf v p .from ≡ lent (readOutcome v p) (requestsAt p) 0
+  pub next : parsedOf v p .next ≡ lent (readOutcome v p) (requestsAt p) (length p)
+  pub ordered : parsedOf v p .from ≤ parsedOf v p .to
+  pub inside : parsedOf v p .to ≤ length p
+  pub octets : take (parsedOf v p .to - parsedOf v p .from) (drop (parsedOf v p .from) p) ≡ requestsPart v p
 
-part-if : (p : List ℕ) (t : Bool) → eqb (readOutcome p .number) 0 ≡ t → Part p
+part-if : (v : Edition) (p : List ℕ) (t : Bool) → eqb (readOutcome v p .number) 0 ≡ t → Part v p
 unfolding acceptedParsed
-part-if p true e =
-    let r = read-of p (eqb-true (readOutcome p .number) 0 e) in
-    let a = parsed-accepted p (r .outcome) in
+part-if v p true e =
+    let r = read-of v p (eqb-true (readOutcome v p .number) 0 e) in
+    let a = parsed-accepted v p (r .outcome) in
     let d = length-drop (requestsAt p) p in
-    let i = requests-in p r in
+    let i = requests-in v p r in
     record {
       from = rw (a, e);
       next = rw (a, e);
@@ -95,9 +96,9 @@ part-if p true e =
       inside = rw a (omega arith);
       octets = rw (a, e) (take-all (length p - requestsAt p) (drop (requestsAt p) p) (omega arith));
     }
-part-if p false e =
-    let a = parsed-refused p (eqb-false (readOutcome p .number) 0 e) in
+part-if v p false e =
+    let a = parsed-refused v p (eqb-false (readOutcome v p .number) 0 e) in
     record { from = rw (a, e); next = rw (a, e); ordered = rw a (omega arith); inside = rw a (omega arith); octets = rw (a, e) }
 
-pub part-of : (p : List ℕ) → Part p
-part-of p = part-if p (eqb (readOutcome p .number) 0) refl
+pub part-of : (v : Edition) (p : List ℕ) → Part v p
+part-of v p = part-if v p (eqb (readOutcome v p .number) 0) refl

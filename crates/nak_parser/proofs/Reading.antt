@@ -18,12 +18,13 @@ use Rattle.octets.specs.Octets.{number, AllOctets}
 use Rattle.nak.proofs.Room as room
 use Rattle.octets.proofs.Fields.{number-below, octets-take, octets-drop}
 use Rattle.nak.specs.declared.Identity.{Identity}
+use Rattle.nak.specs.declared.Edition.{Edition}
 use Rattle.nak.specs.Header.{wrongFixed}
 use Rattle.nak.specs.Pdu.{nakCode}
 use Rattle.nak.specs.Request.{requestsChecks}
 use Rattle.nak.specs.Writer.{largestPdu}
 use Rattle.nak.proofs.Checks.{none-append}
-use Rattle.nak_parser.specs.Parser.{octetAt, fieldAt, packetForm, fieldLengthIn, entityLengthIn, numberLengthIn, headerLengthIn, lengthField}
+use Rattle.nak_parser.specs.Parser.{octetAt, fieldAt, packetFlag, fieldLengthIn, entityLengthIn, numberLengthIn, headerLengthIn, lengthField}
 use Rattle.nak_parser.specs.Parser.{scopeAt, behindScope, requestsAt, requestsIn, packetIdentity, scopeIn, packetRequests, isWrongLength, wrongLength, isWrongData, wrongData, shapeChecks, readChecks, readOutcome}
 
 -- an identity of these lengths and numbers
@@ -66,11 +67,11 @@ module _ (p : List ℕ) where
   -- bounds
   pub field-low : 4 ≤ fieldLengthIn p
   unfolding fieldLengthIn
-  field-low = room.field-low (packetForm p .flag)
+  field-low = room.field-low (packetFlag p)
 
   pub field-high : fieldLengthIn p ≤ 8
   unfolding fieldLengthIn
-  field-high = room.field-high (packetForm p .flag)
+  field-high = room.field-high (packetFlag p)
 
   pub entity-low : 1 ≤ entityLengthIn p
   unfolding entityLengthIn
@@ -118,18 +119,18 @@ module _ (p : List ℕ) where
       (ltb-false (lengthField p) (1 + 2 * fieldLengthIn p) (t .0), eqb-true _ 0 (not-false _ (t .1)))
 
 -- a packet whose shape is right
-pub record Shape (p : List ℕ) : Type 0 where
+pub record Shape (e : Edition) (p : List ℕ) : Type 0 where
   pub enough : 4 ≤ length p
-  pub fixed : wrongFixed (octetAt p 0) (octetAt p 3) ≡ false
+  pub fixed : wrongFixed e (octetAt p 0) (octetAt p 3) ≡ false
   pub some : 1 ≤ lengthField p
   pub total : length p ≡ headerLengthIn p + lengthField p
   pub code : octetAt p (headerLengthIn p) ≡ nakCode
   pub room : 1 + 2 * fieldLengthIn p ≤ lengthField p
   pub whole : (lengthField p - (1 + 2 * fieldLengthIn p)) % (2 * fieldLengthIn p) ≡ 0
-  pub none : NoneOf (shapeChecks p)
+  pub none : NoneOf (shapeChecks e p)
 
-pub shape-of : (p : List ℕ) → NoneOf (shapeChecks p) → Shape p
-shape-of p n =
+pub shape-of : (e : Edition) (p : List ℕ) → NoneOf (shapeChecks e p) → Shape e p
+shape-of e p n =
     let total = right-length p (n .1 .1 .0) in
     let field = right-data p (n .1 .1 .1 .1 .0) in
     record {
@@ -151,44 +152,44 @@ abbrev pub scopeChecks : List ℕ → List Check
 scopeChecks p = (ltb (scopeIn p .end) (scopeIn p .start), refusal.ScopeReversed) ∷ requestsChecks (packetRequests p) ++ sizeCheck p
 
 -- the shape is asked, and then these
-pub in-order : (p : List ℕ) → readOutcome p ≡ firstOf (shapeChecks p) (firstOf (scopeChecks p) (accepted []))
+pub in-order : (e : Edition) (p : List ℕ) → readOutcome e p ≡ firstOf (shapeChecks e p) (firstOf (scopeChecks p) (accepted []))
 unfolding readOutcome
-in-order p = first-append (shapeChecks p) (scopeChecks p) (accepted [])
+in-order e p = first-append (shapeChecks e p) (scopeChecks p) (accepted [])
 
 -- where the shape is right, the scope is asked
-pub from-scope : (p : List ℕ) → Shape p → readOutcome p ≡ firstOf (scopeChecks p) (accepted [])
-from-scope p s = in-order p ∙ first-none (shapeChecks p) (firstOf (scopeChecks p) (accepted [])) (s .none)
+pub from-scope : (e : Edition) (p : List ℕ) → Shape e p → readOutcome e p ≡ firstOf (scopeChecks p) (accepted [])
+from-scope e p s = in-order e p ∙ first-none (shapeChecks e p) (firstOf (scopeChecks p) (accepted [])) (s .none)
 
 -- where the scope is right too, the requests
-pub from-requests : (p : List ℕ) → Shape p → scopeIn p .start ≤ scopeIn p .end → readOutcome p ≡ firstOf (requestsChecks (packetRequests p)) (firstOf (sizeCheck p) (accepted []))
-from-requests p s b = rw (from-scope p s, le-ltb (scopeIn p .end) (scopeIn p .start) b) (first-append (requestsChecks (packetRequests p)) (sizeCheck p) (accepted []))
+pub from-requests : (e : Edition) (p : List ℕ) → Shape e p → scopeIn p .start ≤ scopeIn p .end → readOutcome e p ≡ firstOf (requestsChecks (packetRequests p)) (firstOf (sizeCheck p) (accepted []))
+from-requests e p s b = rw (from-scope e p s, le-ltb (scopeIn p .end) (scopeIn p .start) b) (first-append (requestsChecks (packetRequests p)) (sizeCheck p) (accepted []))
 
 -- and where they are, the size
-pub from-size : (p : List ℕ) → Shape p → scopeIn p .start ≤ scopeIn p .end → NoneOf (requestsChecks (packetRequests p)) → readOutcome p ≡ firstOf (sizeCheck p) (accepted [])
-from-size p s b n = from-requests p s b ∙ first-none (requestsChecks (packetRequests p)) (firstOf (sizeCheck p) (accepted [])) n
+pub from-size : (e : Edition) (p : List ℕ) → Shape e p → scopeIn p .start ≤ scopeIn p .end → NoneOf (requestsChecks (packetRequests p)) → readOutcome e p ≡ firstOf (sizeCheck p) (accepted [])
+from-size e p s b n = from-requests e p s b ∙ first-none (requestsChecks (packetRequests p)) (firstOf (sizeCheck p) (accepted [])) n
 
 -- a packet that is accepted
-pub record Read (p : List ℕ) : Type 0 where
-  pub shape : Shape p
+pub record Read (e : Edition) (p : List ℕ) : Type 0 where
+  pub shape : Shape e p
   pub scope : scopeIn p .start ≤ scopeIn p .end
   pub requests : NoneOf (requestsChecks (packetRequests p))
   pub size : length p ≤ largestPdu
-  pub outcome : readOutcome p ≡ accepted []
+  pub outcome : readOutcome e p ≡ accepted []
 
-pub read-fine : (p : List ℕ) → Shape p → scopeIn p .start ≤ scopeIn p .end → NoneOf (requestsChecks (packetRequests p)) → length p ≤ largestPdu → readOutcome p ≡ accepted []
-read-fine p s b c d = rw (from-size p s b c, le-ltb largestPdu (length p) d)
+pub read-fine : (e : Edition) (p : List ℕ) → Shape e p → scopeIn p .start ≤ scopeIn p .end → NoneOf (requestsChecks (packetRequests p)) → length p ≤ largestPdu → readOutcome e p ≡ accepted []
+read-fine e p s b c d = rw (from-size e p s b c, le-ltb largestPdu (length p) d)
 
-pub read-of : (p : List ℕ) → readOutcome p .number ≡ 0 → Read p
+pub read-of : (e : Edition) (p : List ℕ) → readOutcome e p .number ≡ 0 → Read e p
 unfolding readOutcome
-read-of p z =
-    let n = first-accepted (readChecks p) (accepted []) (eq-eqb _ 0 z) .0 in
-    let m = none-append (shapeChecks p) (scopeChecks p) n in
+read-of e p z =
+    let n = first-accepted (readChecks e p) (accepted []) (eq-eqb _ 0 z) .0 in
+    let m = none-append (shapeChecks e p) (scopeChecks p) n in
     let w = none-append (requestsChecks (packetRequests p)) (sizeCheck p) (m .1 .1) in
-    let s = shape-of p (m .0) in
+    let s = shape-of e p (m .0) in
     record {
       shape = s;
       scope = ltb-false (scopeIn p .end) (scopeIn p .start) (m .1 .0);
       requests = w .0;
       size = ltb-false largestPdu (length p) (w .1 .0);
-      outcome = first-none (readChecks p) (accepted []) n;
+      outcome = first-none (readChecks e p) (accepted []) n;
     }

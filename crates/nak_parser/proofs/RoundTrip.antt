@@ -17,32 +17,34 @@ use Rattle.octets.specs.Flag.{fieldLength, largestOf}
 use Rattle.octets.specs.declared.LargeFileFlag.{LargeFileFlag}
 use Rattle.octets.proofs.Fields.{octets-drop}
 use Rattle.octets.proofs.Largest.{fits-largest}
+use Rattle.nak.specs.declared.Edition.{Edition}
 use Rattle.nak.specs.Pdu.{Nak, pdu}
 use Rattle.nak.specs.Inner.{GoodLengths}
 use Rattle.nak.specs.Writer.{isBadList, numbersOf, nakOutcome, writeOutcome, written}
 use Rattle.nak.proofs.Checks.{GoodNumbers, not-bad-identity, NakFine, nak-of, fine-nak, fine-write, write-accepted}
 use Rattle.nak_parser.specs.declared.Parsed.{Parsed}
-use Rattle.nak_parser.specs.Parser.{requestsPart, acceptedParsed, Says, packetForm, fieldLengthIn, entityLengthIn, numberLengthIn, headerLengthIn, scopeAt, requestsAt, requestsIn, packetIdentity, scopeIn, packetRequests, nakIn, readOutcome}
+use Rattle.nak_parser.specs.Parser.{requestsPart, acceptedParsed, Says, packetFlag, fieldLengthIn, entityLengthIn, numberLengthIn, headerLengthIn, scopeAt, requestsAt, requestsIn, packetIdentity, scopeIn, packetRequests, nakIn, readOutcome}
 use Rattle.nak_parser.proofs.Reading.{Read, read-of, header-is, entity-low, entity-high, number-low, number-high}
+use Rattle.nak_parser.proofs.Editions.{one-edition}
 use Rattle.nak_parser.proofs.ParsedOf.{parsed-accepted}
 use Rattle.nak_parser.proofs.FieldsBack.{nak-back, read-back, rest}
-use Rattle.nak_parser.proofs.OctetsBack.{part-low, f-is, requests-room, length-requests-in, pdu-forth}
+use Rattle.nak_parser.proofs.OctetsBack.{part-low, f-is, requests-room, length-requests-in, reserved-in, pdu-forth}
 
 -- Reading what was written gives back every field, the requests in order and the flag included, for everything the writer accepts.
 pub read-written :
     (xs : List ℕ) (n : Nak) (buf : List ℕ)
     → writeOutcome xs n (length buf) .number ≡ 0
-    → (readOutcome (written xs n buf) ≡ accepted []) × (nakIn (written xs n buf) ≡ n)
+    → (readOutcome (n .form .edition) (written xs n buf) ≡ accepted []) × (nakIn (n .form .edition) (written xs n buf) ≡ n)
 read-written xs n buf z =
     let w = write-accepted xs n (length buf) z in
     let f = w .says in
     rw (fine-write xs n (length buf) w) (read-back n f, nak-back n f)
 
 -- what `parse` hands back of an accepted packet is what the packet says
-pub parsed-says : (p : List ℕ) (n : Nak) → readOutcome p ≡ accepted [] → nakIn p ≡ n → Says p n
+pub parsed-says : (p : List ℕ) (n : Nak) → readOutcome (n .form .edition) p ≡ accepted [] → nakIn (n .form .edition) p ≡ n → Says p n
 unfolding acceptedParsed
 parsed-says p n a e =
-    let h = parsed-accepted p a in
+    let h = parsed-accepted (n .form .edition) p a in
     record {
       refusal = rw h;
       identity = ap (λ (z : Parsed). z .identity) h ∙ ap (λ (z : Nak). z .identity) e;
@@ -57,20 +59,25 @@ pub parsed-written : (xs : List ℕ) (n : Nak) (buf : List ℕ) → writeOutcome
 parsed-written xs n buf z = let r = read-written xs n buf z in parsed-says (written xs n buf) n (r .0) (r .1)
 
 -- Every PDU of fields within the limits is accepted.
-pub pdu-accepted : (n : Nak) → nakOutcome n ≡ accepted [] → readOutcome (pdu n) ≡ accepted []
+pub pdu-accepted : (n : Nak) → nakOutcome n ≡ accepted [] → readOutcome (n .form .edition) (pdu n) ≡ accepted []
 pdu-accepted n e = read-back n (nak-of n (ap (λ (o : Outcome). o .number) e))
 
 -- and says what it was made of
-pub read-pdu : (n : Nak) → nakOutcome n ≡ accepted [] → nakIn (pdu n) ≡ n
+pub read-pdu : (n : Nak) → nakOutcome n ≡ accepted [] → nakIn (n .form .edition) (pdu n) ≡ n
 read-pdu n e = nak-back n (nak-of n (ap (λ (o : Outcome). o .number) e))
 
 -- Two NAKs within the limits that have one PDU are the same.
 pub pdu-injective : (m n : Nak) → nakOutcome m ≡ accepted [] → nakOutcome n ≡ accepted [] → pdu m ≡ pdu n → m ≡ n
 pdu-injective m n a b e =
-    sym (nak-back m (nak-of m (ap (λ (o : Outcome). o .number) a))) ∙ ap nakIn e ∙ nak-back n (nak-of n (ap (λ (o : Outcome). o .number) b))
+    let f = nak-of m (ap (λ (o : Outcome). o .number) a) in
+    let g = nak-of n (ap (λ (o : Outcome). o .number) b) in
+    let v = m .form .edition in
+    let w = n .form .edition in
+    let same = one-edition v w (pdu n) (ap (λ (o : Outcome). o .number) (rw e at (read-back m f))) (ap (λ (o : Outcome). o .number) (read-back n g)) in
+    sym (nak-back m f) ∙ ap (nakIn v) e ∙ ap (λ (x : Edition). nakIn x (pdu n)) same ∙ nak-back n g
 
 -- The part of a PDU that is handed back as its requests holds them, start and end, F octets each.
-pub part-written : (n : Nak) → nakOutcome n ≡ accepted [] → requestsPart (pdu n) ≡ fields (fieldLength (n .form .flag)) (flat (n .requests))
+pub part-written : (n : Nak) → nakOutcome n ≡ accepted [] → requestsPart (n .form .edition) (pdu n) ≡ fields (fieldLength (n .form .flag)) (flat (n .requests))
 part-written n e = rw (pdu-accepted n e) (rest n (nak-of n (ap (λ (o : Outcome). o .number) e)))
 
 above-one : (g : LargeFileFlag) (v : ℕ) {f : ℕ} → f ≡ fieldLength g → v < 256 ^ f → ltb (largestOf g) v ≡ false
@@ -85,7 +92,7 @@ none-above g (suc k) os a h =
     let d = length-drop (2 * f) os in
     rw (above-one g _ refl (part-low os 0 f a (omega arith)), above-one g _ refl (part-low os f f a (omega arith))) (none-above g k (drop (2 * f) os) (octets-drop (2 * f) os a) (omega arith))
 
-module _ (p : List ℕ) (a : AllOctets p) (r : Read p) where
+module _ (v : Edition) (p : List ℕ) (a : AllOctets p) (r : Read v p) where
   good-lengths-in : GoodLengths (packetIdentity p)
   unfolding packetIdentity
   good-lengths-in = record { entity-low = entity-low p; entity-high = entity-high p; number-low = number-low p; number-high = number-high p }
@@ -101,36 +108,37 @@ module _ (p : List ℕ) (a : AllOctets p) (r : Read p) where
         destination = part-low p (4 + entityLengthIn p + numberLengthIn p) (entityLengthIn p) a (omega arith);
       }
 
-  numbers-in : anyAbove (largestOf (packetForm p .flag)) (numbersOf (nakIn p)) ≡ false
+  numbers-in : anyAbove (largestOf (packetFlag p)) (numbersOf (nakIn v p)) ≡ false
   unfolding scopeIn scopeAt packetRequests
   numbers-in =
       let t = r .shape in
-      let g = packetForm p .flag in
+      let g = packetFlag p in
       let x = above-one g (scopeIn p .start) (f-is p) (part-low p (headerLengthIn p + 1) (fieldLengthIn p) a (omega arith)) in
       let y = above-one g (scopeIn p .end) (f-is p) (part-low p (headerLengthIn p + 1 + fieldLengthIn p) (fieldLengthIn p) a (omega arith)) in
       let k = (length p - requestsAt p) / (2 * fieldLength g) in
-      let z = none-above g k (drop (requestsAt p) p) (octets-drop (requestsAt p) p a) (length-drop (requestsAt p) p ∙ rw (f-is p) at (requests-room p r)) in
+      let z = none-above g k (drop (requestsAt p) p) (octets-drop (requestsAt p) p a) (length-drop (requestsAt p) p ∙ rw (f-is p) at (requests-room v p r)) in
       rw (x, y, f-is p) z
 
   -- what an accepted packet says is within the limits
-  pub fine-in : NakFine (nakIn p)
+  pub fine-in : NakFine (nakIn v p)
   fine-in =
       record {
         identity = not-bad-identity (packetIdentity p) good-lengths-in good-numbers-in;
+        reserved = reserved-in v p a r;
         scope = r .scope;
         requests = r .requests;
         numbers = numbers-in;
-        size = rw (pdu-forth p a r) (r .size);
+        size = rw (pdu-forth v p a r) (r .size);
       }
 
 -- Every accepted packet is the PDU of its fields, and they are within the limits.
-pub accepted-pdu : (p : List ℕ) → AllOctets p → readOutcome p .number ≡ 0 → (pdu (nakIn p) ≡ p) × (nakOutcome (nakIn p) ≡ accepted [])
-accepted-pdu p a z = let r = read-of p z in (pdu-forth p a r, fine-nak (nakIn p) (fine-in p a r))
+pub accepted-pdu : (v : Edition) (p : List ℕ) → AllOctets p → readOutcome v p .number ≡ 0 → (pdu (nakIn v p) ≡ p) × (nakOutcome (nakIn v p) ≡ accepted [])
+accepted-pdu v p a z = let r = read-of v p z in (pdu-forth v p a r, fine-nak (nakIn v p) (fine-in v p a r))
 
 -- the flat list of the requests of an accepted packet is even, and short enough for the writer
-good-requests : (p : List ℕ) → Read p → isBadList (flat (packetRequests p)) ≡ false
+good-requests : (v : Edition) (p : List ℕ) → Read v p → isBadList (flat (packetRequests p)) ≡ false
 unfolding isBadList packetRequests
-good-requests p r =
+good-requests v p r =
     let k = (length p - requestsAt p) / (2 * fieldLengthIn p) in
     let l : length (flat (requestsIn (fieldLengthIn p) k (drop (requestsAt p) p))) ≡ 2 * k = length-flat (requestsIn (fieldLengthIn p) k (drop (requestsAt p) p)) ∙ rw (length-requests-in (fieldLengthIn p) k (drop (requestsAt p) p)) in
     let s = r .size in
@@ -140,13 +148,13 @@ good-requests p r =
 -- Writing what was read gives back every octet, for everything the reader accepts: the writer, given what the packet says, its
 -- requests as a flat list and a buffer of the packet's length, accepts it and leaves the packet in the buffer.
 pub written-read :
-    (p buf : List ℕ)
+    (v : Edition) (p buf : List ℕ)
     → AllOctets p
-    → readOutcome p .number ≡ 0
+    → readOutcome v p .number ≡ 0
     → length buf ≡ length p
-    → (writeOutcome (flat (packetRequests p)) (nakIn p) (length buf) ≡ accepted (length p ∷ [])) × (written (flat (packetRequests p)) (nakIn p) buf ≡ p) × (pairs (flat (packetRequests p)) ≡ packetRequests p)
-written-read p buf a z e =
-    let r = read-of p z in
-    let f = pdu-forth p a r in
-    let w = rw f at (fine-write (flat (packetRequests p)) (nakIn p) (length buf) (record { list = good-requests p r; says = fine-in p a r; size = rw f e })) in
+    → (writeOutcome (flat (packetRequests p)) (nakIn v p) (length buf) ≡ accepted (length p ∷ [])) × (written (flat (packetRequests p)) (nakIn v p) buf ≡ p) × (pairs (flat (packetRequests p)) ≡ packetRequests p)
+written-read v p buf a z e =
+    let r = read-of v p z in
+    let f = pdu-forth v p a r in
+    let w = rw f at (fine-write (flat (packetRequests p)) (nakIn v p) (length buf) (record { list = good-requests v p r; says = fine-in v p a r; size = rw f e })) in
     (w, rw (w, f), pairs-flat (packetRequests p))

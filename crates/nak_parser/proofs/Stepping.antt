@@ -10,6 +10,7 @@ use lib.ListN.{length, getD, drop, replicate}
 use lib.Seq.{drop-drop}
 use borrow.Author.Tests.{eqb-true, lt-ltb, le-ltb}
 use Rattle.outcomes.specs.Outcome.{Outcome, accepted}
+use Rattle.nak.specs.declared.Edition.{Edition}
 use Rattle.nak_parser.specs.declared.Found.{Found}
 use Rattle.nak_parser.specs.declared.Step.{Step}
 use Rattle.nak_parser.specs.declared.Step.the-variants.{Request, End}
@@ -45,22 +46,22 @@ going p (suc j) at k h =
     let n = not-at-end p at (omega arith) in
     rw (suc-add, n, drop-drop f at p, drop-drop (2 * f) at p, going p j (at + 2 * f) k (omega arith))
 
-stepping-if : (p : List ℕ) (k : ℕ) (t : Bool) → eqb (readOutcome p .number) 0 ≡ t → steps p (parsedOf p .next) (length (requestsGiven p) + k) ≡ eachRequest (requestsGiven p) ++ replicate k (accepted [])
+stepping-if : (v : Edition) (p : List ℕ) (k : ℕ) (t : Bool) → eqb (readOutcome v p .number) 0 ≡ t → steps p (parsedOf v p .next) (length (requestsGiven v p) + k) ≡ eachRequest (requestsGiven v p) ++ replicate k (accepted [])
 unfolding packetRequests
-stepping-if p k true e =
-    let r = read-of p (eqb-true (readOutcome p .number) 0 e) in
-    let q = part-of p in
+stepping-if v p k true e =
+    let r = read-of v p (eqb-true (readOutcome v p .number) 0 e) in
+    let q = part-of v p in
     let f = fieldLengthIn p in
     let j = (length p - requestsAt p) / (2 * f) in
-    rw (q .next, e, length-requests-in f j (drop (requestsAt p) p)) (going p j (requestsAt p) k (requests-room p r))
-stepping-if p k false e =
-    let q = part-of p in
+    rw (q .next, e, length-requests-in f j (drop (requestsAt p) p)) (going p j (requestsAt p) k (requests-room v p r))
+stepping-if v p k false e =
+    let q = part-of v p in
     let l = field-low p in
     rw (q .next, e, zero-add) (ended p (length p) k (omega arith))
 
 -- stepping from where reading left the reader
-pub stepping : (p : List ℕ) (k : ℕ) → steps p (parsedOf p .next) (length (requestsGiven p) + k) ≡ eachRequest (requestsGiven p) ++ replicate k (accepted [])
-stepping p k = stepping-if p k (eqb (readOutcome p .number) 0) refl
+pub stepping : (v : Edition) (p : List ℕ) (k : ℕ) → steps p (parsedOf v p .next) (length (requestsGiven v p) + k) ≡ eachRequest (requestsGiven v p) ++ replicate k (accepted [])
+stepping v p k = stepping-if v p k (eqb (readOutcome v p .number) 0) refl
 
 -- two steps with one outcome are equal
 step : Outcome → Step

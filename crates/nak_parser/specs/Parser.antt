@@ -1,4 +1,4 @@
--- Reading one PDU (document 01, "Reading").
+-- Reading one PDU (document 01, "Reading"), on a link of either edition (document 02, C-20).
 use Prim.Native.Nat.{ℕ, zero, suc, _+_, _*_, _-_, _/_, _%_}
 use mathlib.Core.Path.{_≡_}
 use mathlib.Core.Bool.{Bool, _||_, not, cond}
@@ -12,12 +12,14 @@ use Rattle.outcomes.specs.Checks.{Check, firstOf}
 use Rattle.outcomes.specs.declared.Refusal.the-variants as refusal
 use Rattle.octets.specs.Octets.{number}
 use Rattle.octets.specs.Flag.{fieldLength}
+use Rattle.octets.specs.declared.LargeFileFlag.{LargeFileFlag}
 use Rattle.octets.specs.declared.LargeFileFlag.the-variants.{Normal}
+use Rattle.nak.specs.declared.Edition.{Edition}
 use Rattle.nak.specs.declared.Form.{Form}
 use Rattle.nak.specs.declared.Identity.{Identity}
 use Rattle.nak_parser.specs.declared.Parsed.{Parsed}
 use Rattle.nak_parser.specs.declared.inner.Header.{Header}
-use Rattle.nak.specs.Header.{wrongFixed, formOf, entityLengthOf, numberLengthOf}
+use Rattle.nak.specs.Header.{wrongFixed, flagOf, entityLengthOf, numberLengthOf}
 use Rattle.nak.specs.Pdu.{Nak, nakCode, headerLength}
 use Rattle.nak.specs.Request.{requestsChecks}
 use Rattle.nak.specs.Writer.{largestPdu}
@@ -30,13 +32,17 @@ octetAt p at = getD p at 0
 abbrev pub fieldAt : List ℕ → ℕ → ℕ → ℕ
 fieldAt p at f = number (take f (drop at p))
 
--- The form of a packet.
-unfoldable pub packetForm : List ℕ → Form
-packetForm p = formOf (octetAt p 0)
+-- The flag of a packet, in octet 0.
+unfoldable pub packetFlag : List ℕ → LargeFileFlag
+packetFlag p = flagOf (octetAt p 0)
 
--- F, by the form.
+-- The form of a packet, by the link's edition.
+abbrev pub packetForm : Edition → List ℕ → Form
+packetForm e p = record { edition = e; flag = packetFlag p }
+
+-- F, by the flag.
 unfoldable pub fieldLengthIn : List ℕ → ℕ
-fieldLengthIn p = fieldLength (packetForm p .flag)
+fieldLengthIn p = fieldLength (packetFlag p)
 
 -- I and Q, in octet 3.
 unfoldable pub entityLengthIn : List ℕ → ℕ
@@ -54,10 +60,10 @@ unfoldable pub lengthField : List ℕ → ℕ
 lengthField p = fieldAt p 1 2
 
 -- What the header's first four octets say.
-abbrev pub headerIn : List ℕ → Header
-headerIn p =
+abbrev pub headerIn : Edition → List ℕ → Header
+headerIn e p =
     record {
-      form = packetForm p;
+      form = packetForm e p;
       «entity_length» = entityLengthIn p;
       «number_length» = numberLengthIn p;
       length = headerLengthIn p;
@@ -101,8 +107,8 @@ unfoldable pub packetRequests : List ℕ → List Range
 packetRequests p = requestsIn (fieldLengthIn p) ((length p - requestsAt p) / (2 * fieldLengthIn p)) (drop (requestsAt p) p)
 
 -- What a packet says.
-abbrev pub nakIn : List ℕ → Nak
-nakIn p = record { form = packetForm p; identity = packetIdentity p; scope = scopeIn p; requests = packetRequests p }
+abbrev pub nakIn : Edition → List ℕ → Nak
+nakIn e p = record { form = packetForm e p; identity = packetIdentity p; scope = scopeIn p; requests = packetRequests p }
 
 -- 16: packet not H plus the length field, or length field 0.
 abbrev pub isWrongLength : ℕ → ℕ → ℕ → Bool
@@ -122,34 +128,34 @@ wrongData p = isWrongData (lengthField p) (fieldLengthIn p)
 
 -- Reading, up to the scope: below 4 octets 16; any fixed bit of octets 0 and 3 wrong 15; packet not H plus the length field, or
 -- length field 0, 16; 17; data field not 1 + 2F + a multiple of 2F, 16.
-abbrev pub shapeChecks : List ℕ → List Check
-shapeChecks p =
+abbrev pub shapeChecks : Edition → List ℕ → List Check
+shapeChecks e p =
     (ltb (length p) 4, refusal.LengthMismatch)
-    ∷ (wrongFixed (octetAt p 0) (octetAt p 3), refusal.BadHeader)
+    ∷ (wrongFixed e (octetAt p 0) (octetAt p 3), refusal.BadHeader)
     ∷ (wrongLength p, refusal.LengthMismatch)
     ∷ (not (eqb (octetAt p (headerLengthIn p)) nakCode), refusal.NotNak)
     ∷ (wrongData p, refusal.LengthMismatch)
     ∷ []
 
 -- Reading: these, then 18; requests in order; total above 4,096, 14.
-abbrev pub readChecks : List ℕ → List Check
-readChecks p =
-    shapeChecks p
+abbrev pub readChecks : Edition → List ℕ → List Check
+readChecks e p =
+    shapeChecks e p
     ++ ((ltb (scopeIn p .end) (scopeIn p .start), refusal.ScopeReversed) ∷ requestsChecks (packetRequests p) ++ ((ltb largestPdu (length p), refusal.PduSize) ∷ []))
 
-unfoldable pub readOutcome : List ℕ → Outcome
-readOutcome p = firstOf (readChecks p) (accepted [])
+unfoldable pub readOutcome : Edition → List ℕ → Outcome
+readOutcome e p = firstOf (readChecks e p) (accepted [])
 
--- What reading hands back of a refused packet: the number and what it carries, all else 0; the reader of the requests stands at
+-- What reading hands back of a refused packet: the number and what it carries, all else 0 but the link's edition; the reader of the requests stands at
 -- its end, the packet's length.
-abbrev pub refusedParsed : Outcome → ℕ → Parsed
-refusedParsed o len =
+abbrev pub refusedParsed : Edition → Outcome → ℕ → Parsed
+refusedParsed e o len =
     record {
       refusal = o .number;
       start = getD (o .values) 0 0;
       end = getD (o .values) 1 0;
       identity = record { «entity_length» = 0; «number_length» = 0; source = 0; number = 0; destination = 0 };
-      form = record { flag = Normal };
+      form = record { edition = e; flag = Normal };
       «scope_start» = 0;
       «scope_end» = 0;
       from = 0;
@@ -158,14 +164,14 @@ refusedParsed o len =
     }
 
 -- And of an accepted one: number 0, and what the packet says. The requests stand from behind the scope to the packet's end.
-unfoldable pub acceptedParsed : List ℕ → Parsed
-acceptedParsed p =
+unfoldable pub acceptedParsed : Edition → List ℕ → Parsed
+acceptedParsed e p =
     record {
       refusal = 0;
       start = 0;
       end = 0;
       identity = packetIdentity p;
-      form = packetForm p;
+      form = packetForm e p;
       «scope_start» = scopeIn p .start;
       «scope_end» = scopeIn p .end;
       from = requestsAt p;
@@ -174,27 +180,27 @@ acceptedParsed p =
     }
 
 -- Either, by the outcome.
-abbrev pub parsed : Outcome → List ℕ → Parsed
-parsed o p = cond (eqb (o .number) 0) (acceptedParsed p) (refusedParsed o (length p))
+abbrev pub parsed : Edition → Outcome → List ℕ → Parsed
+parsed e o p = cond (eqb (o .number) 0) (acceptedParsed e p) (refusedParsed e o (length p))
 
 -- What reading hands back of a packet.
-unfoldable pub parsedOf : List ℕ → Parsed
-parsedOf p = parsed (readOutcome p) p
+unfoldable pub parsedOf : Edition → List ℕ → Parsed
+parsedOf e p = parsed e (readOutcome e p) p
 
--- What reading hands back of the packet p is what the NAK n says, and the octets of p hold its requests.
+-- What reading hands back of the packet p, on a link of n's edition, is what the NAK n says, and the octets of p hold its requests.
 pub record Says (p : List ℕ) (n : Nak) : Type 0 where
-  pub refusal : parsedOf p .refusal ≡ 0
-  pub identity : parsedOf p .identity ≡ n .identity
-  pub form : parsedOf p .form ≡ n .form
-  pub scope-start : parsedOf p .«scope_start» ≡ n .scope .start
-  pub scope-end : parsedOf p .«scope_end» ≡ n .scope .end
+  pub refusal : parsedOf (n .form .edition) p .refusal ≡ 0
+  pub identity : parsedOf (n .form .edition) p .identity ≡ n .identity
+  pub form : parsedOf (n .form .edition) p .form ≡ n .form
+  pub scope-start : parsedOf (n .form .edition) p .«scope_start» ≡ n .scope .start
+  pub scope-end : parsedOf (n .form .edition) p .«scope_end» ≡ n .scope .end
   pub requests : packetRequests p ≡ n .requests
 
 -- The requests as the caller's own octets: the part of an accepted packet from behind the scope to its end, and of a refused one
 -- an empty part at octet 0.
-abbrev pub requestsPart : List ℕ → List ℕ
-requestsPart p = lent (readOutcome p) (drop (requestsAt p) p) []
+abbrev pub requestsPart : Edition → List ℕ → List ℕ
+requestsPart e p = lent (readOutcome e p) (drop (requestsAt p) p) []
 
 -- Where that part starts in the caller's own memory: the packet's block, and the start past its offset.
-abbrev pub requestsPtr : RefT (List ℕ) → ℕ × ℕ
-requestsPtr p = (ptr p .0, lent (readOutcome (now p)) (requestsAt (now p)) 0 + ptr p .1)
+abbrev pub requestsPtr : Edition → RefT (List ℕ) → ℕ × ℕ
+requestsPtr e p = (ptr p .0, lent (readOutcome e (now p)) (requestsAt (now p)) 0 + ptr p .1)

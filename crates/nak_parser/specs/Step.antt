@@ -6,6 +6,7 @@ use lib.Dec.{ltb}
 use lib.ListN.{length}
 use Rattle.ranges.specs.Range.{Range}
 use Rattle.outcomes.specs.Outcome.{Outcome, accepted, lent}
+use Rattle.nak.specs.declared.Edition.{Edition}
 use Rattle.nak_parser.specs.declared.Step.{Step}
 use Rattle.nak_parser.specs.declared.Step.the-variants.{Request, End}
 use Rattle.nak_parser.specs.Parser.{fieldAt, fieldLengthIn, packetRequests, readOutcome}
@@ -39,5 +40,5 @@ eachRequest [] = []
 eachRequest (r ∷ rs) = accepted (r .start ∷ r .end ∷ []) ∷ eachRequest rs
 
 -- The requests that a reader gives from where reading left it: those of an accepted packet, and none of a refused one.
-abbrev pub requestsGiven : List ℕ → List Range
-requestsGiven p = lent (readOutcome p) (packetRequests p) []
+abbrev pub requestsGiven : Edition → List ℕ → List Range
+requestsGiven e p = lent (readOutcome e p) (packetRequests p) []

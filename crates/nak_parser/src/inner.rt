@@ -1,6 +1,8 @@
 // Inner: not part of the public interface. Some of these have a `requires`, which their callers show.
+use nak::Edition;
 use nak::Form;
 use nak::inner::lengths::header_length;
+use nak::inner::put::fixed_bits;
 use nak::inner::requests::is_empty;
 use nak::inner::requests::none_after;
 use octets::LargeFileFlag;
@@ -16,11 +18,10 @@ ghost use denote.Ref.{ptr};
 ghost use Rattle.outcomes.specs.Outcome.{accepted};
 ghost use Rattle.outcomes.specs.Refusal.{refusing};
 ghost use Rattle.outcomes.specs.Checks.{firstOf, verdictCase};
-ghost use Rattle.nak.specs.Header.{wrongFixed, flagOf, formOf};
+ghost use Rattle.nak.specs.Header.{fixedBits0, wrongFixed, flagOf, formOf};
 ghost use Rattle.nak.specs.Request.{requestsChecks};
-ghost use Rattle.nak_parser.specs.Parser.{headerIn, headerLengthIn, requestsIn, packetIdentity, isWrongLength, isWrongData, shapeChecks, refusedParsed};
+ghost use Rattle.nak_parser.specs.Parser.{headerIn, entityLengthIn, numberLengthIn, headerLengthIn, requestsIn, packetIdentity, isWrongLength, isWrongData, shapeChecks, refusedParsed};
 use crate::Parsed;
-use nak::FIXED_BITS;
 use nak::Identity;
 use nak::NAK_CODE;
 
@@ -30,11 +31,21 @@ pub fn wide(octet: u8) -> usize
     octet as usize
 }
 
-// 15.
-pub fn wrong_fixed(o0: usize, o3: usize) -> bool
-    ensures { λ r. ⌜ r ≡ wrongFixed o0 o3 ⌝ }
+// What an octet 0 has at the places of the fixed bits.
+fn fixed_bits_in(edition: Edition, o0: usize) -> usize
+    ensures { λ r. ⌜ r ≡ fixedBits0 edition o0 ⌝ }
 {
-    if o0 / 2 * 2 != FIXED_BITS as usize {
+    match edition {
+        Edition::Older => o0,
+        Edition::Newer => o0 / 2 * 2,
+    }
+}
+
+// 15.
+pub fn wrong_fixed(edition: Edition, o0: usize, o3: usize) -> bool
+    ensures { λ r. ⌜ r ≡ wrongFixed edition o0 o3 ⌝ }
+{
+    if fixed_bits_in(edition, o0) != fixed_bits(edition) as usize {
         return true;
     }
     o3 / 128 * 128 + o3 / 8 % 2 * 8 != 0
@@ -60,7 +71,7 @@ pub fn wrong_data(len: usize, f: usize) -> bool
 }
 
 // The large file flag of octet 0.
-fn flag_of(octet: usize) -> LargeFileFlag
+pub fn flag_of(octet: usize) -> LargeFileFlag
     ensures { λ r. ⌜ r ≡ flagOf octet ⌝ }
 {
     if octet % 2 == 0 {
@@ -70,12 +81,12 @@ fn flag_of(octet: usize) -> LargeFileFlag
     }
 }
 
-// The form that octet 0 says.
-pub fn form_of(octet: usize) -> Form
-    ensures { λ r. ⌜ r ≡ formOf octet ⌝ }
+// The form that octet 0 says, on a link of this edition.
+pub fn form_of(edition: Edition, octet: usize) -> Form
+    ensures { λ r. ⌜ r ≡ formOf edition octet ⌝ }
 {
     let flag = flag_of(octet);
-    Form { flag }
+    Form { edition, flag }
 }
 
 // What the header's first four octets say: the form, I and Q, and so H; the length field.
@@ -87,14 +98,14 @@ pub struct Header {
     pub data_length: usize,
 }
 
-pub fn header_in(packet: &[u8]) -> Header
+pub fn header_in(packet: &[u8], edition: Edition) -> Header
     requires { ⌜ 4 ≤ length (now packet) ⌝ }
-    ensures { λ r. ⌜ r ≡ headerIn (now (packet .entry)) ⌝ }
+    ensures { λ r. ⌜ r ≡ headerIn edition (now (packet .entry)) ⌝ }
 {
     let octet = wide(packet[3]);
     let entity_length = octet / 16 % 8 + 1;
     let number_length = octet % 8 + 1;
-    let form = form_of(wide(packet[0]));
+    let form = form_of(edition, wide(packet[0]));
     let length = header_length(entity_length, number_length);
     let data_length = get(packet, 1, 2) as usize;
     Header {
@@ -107,11 +118,11 @@ pub fn header_in(packet: &[u8]) -> Header
 }
 
 // The checks of a packet of at least four octets, up to the scope.
-pub fn shape(packet: &[u8], header: Header) -> Verdict
-    requires { ⌜ (4 ≤ length (now packet)) × (header ≡ headerIn (now packet)) ⌝ }
-    ensures { λ r. ⌜ verdictCase r ≡ firstOf (shapeChecks (now (packet .entry))) (accepted []) ⌝ }
+pub fn shape(packet: &[u8], edition: Edition, header: Header) -> Verdict
+    requires { ⌜ (4 ≤ length (now packet)) × (header ≡ headerIn edition (now packet)) ⌝ }
+    ensures { λ r. ⌜ verdictCase r ≡ firstOf (shapeChecks edition (now (packet .entry))) (accepted []) ⌝ }
 {
-    if wrong_fixed(wide(packet[0]), wide(packet[3])) {
+    if wrong_fixed(edition, wide(packet[0]), wide(packet[3])) {
         return Verdict::Refused(Refusal::BadHeader);
     }
     let h = header.length;
@@ -131,7 +142,7 @@ pub fn shape(packet: &[u8], header: Header) -> Verdict
 
 // Source entity, sequence number, destination entity.
 pub fn identity_in(packet: &[u8], header: Header) -> Identity
-    requires { ⌜ (headerLengthIn (now packet) ≤ length (now packet)) × (header ≡ headerIn (now packet)) ⌝ }
+    requires { ⌜ (headerLengthIn (now packet) ≤ length (now packet)) × (header .«entity_length» ≡ entityLengthIn (now packet)) × (header .«number_length» ≡ numberLengthIn (now packet)) ⌝ }
     ensures { λ r. ⌜ r ≡ packetIdentity (now (packet .entry)) ⌝ }
 {
     let i = header.entity_length;
@@ -173,8 +184,8 @@ pub fn check_packet(packet: &[u8], from: usize, f: usize, count: usize) -> Verdi
 }
 
 // What is handed back of a refused packet: the number, and the start and end that it carries.
-pub fn refused(r: Refusal, length: usize) -> Parsed
-    ensures { λ p. ⌜ p ≡ refusedParsed (refusing r) length ⌝ }
+pub fn refused(edition: Edition, r: Refusal, length: usize) -> Parsed
+    ensures { λ p. ⌜ p ≡ refusedParsed edition (refusing r) length ⌝ }
 {
     let n = in_numbers(r);
     Parsed {
@@ -189,6 +200,7 @@ pub fn refused(r: Refusal, length: usize) -> Parsed
             destination: 0,
         },
         form: Form {
+            edition,
             flag: LargeFileFlag::Normal,
         },
         scope_start: 0,

@@ -1,4 +1,5 @@
 // Reading one NAK PDU into plain values.
+use nak::Edition;
 use nak::Form;
 use nak::Identity;
 use nak::LARGEST_PDU;
@@ -27,18 +28,18 @@ pub struct Parsed {
     pub next: usize,
 }
 
-// Reads any octets of any length.
-pub fn parse(packet: &[u8]) -> Parsed
-    ensures { λ r. ⌜ r ≡ parsedOf (now (packet .entry)) ⌝ }
+// Reads any octets of any length, on a link of this edition.
+pub fn parse(packet: &[u8], edition: Edition) -> Parsed
+    ensures { λ r. ⌜ r ≡ parsedOf edition (now (packet .entry)) ⌝ }
 {
     let total = packet.len();
     if total < 4 {
-        return inner::refused(Refusal::LengthMismatch, total);
+        return inner::refused(edition, Refusal::LengthMismatch, total);
     }
-    let header = inner::header_in(packet);
-    let shape = inner::shape(packet, header);
+    let header = inner::header_in(packet, edition);
+    let shape = inner::shape(packet, edition, header);
     if let Verdict::Refused(r) = shape {
-        return inner::refused(r, total);
+        return inner::refused(edition, r, total);
     }
     let form = header.form;
     let f = form.field_length();
@@ -46,15 +47,15 @@ pub fn parse(packet: &[u8]) -> Parsed
     let scope_start = get(packet, at, f);
     let scope_end = get(packet, at + f, f);
     if scope_end < scope_start {
-        return inner::refused(Refusal::ScopeReversed, total);
+        return inner::refused(edition, Refusal::ScopeReversed, total);
     }
     let from = at + 2 * f;
     let found = inner::check_packet(packet, from, f, (total - from) / (2 * f));
     if let Verdict::Refused(r) = found {
-        return inner::refused(r, total);
+        return inner::refused(edition, r, total);
     }
     if LARGEST_PDU < total {
-        return inner::refused(Refusal::PduSize, total);
+        return inner::refused(edition, Refusal::PduSize, total);
     }
     let identity = inner::identity_in(packet, header);
     Parsed {
@@ -72,10 +73,10 @@ pub fn parse(packet: &[u8]) -> Parsed
 }
 
 // The part of the packet that holds the requests, the caller's own octets.
-pub fn requests<'a>(packet: &'a [u8]) -> &'a [u8]
-    ensures { λ r. ⌜ (now r ≡ requestsPart (now (packet .entry))) × (ptr r ≡ requestsPtr (packet .entry)) ⌝ }
+pub fn requests<'a>(packet: &'a [u8], edition: Edition) -> &'a [u8]
+    ensures { λ r. ⌜ (now r ≡ requestsPart edition (now (packet .entry))) × (ptr r ≡ requestsPtr edition (packet .entry)) ⌝ }
 {
-    let parsed = parse(packet);
+    let parsed = parse(packet, edition);
     inner::part(packet, parsed.from, parsed.to)
 }
 
@@ -102,8 +103,8 @@ pub fn next_at(packet: &[u8], at: usize) -> Found
             at,
         };
     }
-    let form = inner::form_of(inner::wide(packet[0]));
-    let f = form.field_length();
+    let flag = inner::flag_of(inner::wide(packet[0]));
+    let f = flag.field_length();
     if total - at < 2 * f {
         return Found {
             step: Step::End,

@@ -5,6 +5,7 @@ use Prim.Native.Nat.{ℕ, zero, suc, _+_}
 use lib.ListN.{length, replicate}
 use denote.Ref.{RefT, now}
 use Rattle.outcomes.specs.Outcome.{Outcome, accepted}
+use Rattle.nak.specs.declared.Edition.{Edition}
 use Rattle.nak_parser.specs.Step.{stepOutcome, steps, eachRequest, requestsGiven}
 use Rattle.nak_parser.proofs.ParsedOf.{part-of}
 use Rattle.nak_parser.proofs.Stepping.{stepping}
@@ -17,8 +18,8 @@ steps-of zero r = refl
 steps-of (suc k) r = ap (λ (os : List Outcome). stepOutcome (now (r .packet)) (r .at) ∷ os) (steps-of k (readerAfter r))
 
 -- from the reader that reading hands back
-pub reading : (p : RefT (List ℕ)) (k : ℕ) → readings (readerOf p) (length (requestsGiven (now p)) + k) ≡ eachRequest (requestsGiven (now p)) ++ replicate k (accepted [])
-reading p k =
-    steps-of (length (requestsGiven (now p)) + k) (readerOf p)
-    ∙ ap (λ (at : ℕ). steps (now p) at (length (requestsGiven (now p)) + k)) (sym (part-of (now p) .next))
-    ∙ stepping (now p) k
+pub reading : (e : Edition) (p : RefT (List ℕ)) (k : ℕ) → readings (readerOf e p) (length (requestsGiven e (now p)) + k) ≡ eachRequest (requestsGiven e (now p)) ++ replicate k (accepted [])
+reading e p k =
+    steps-of (length (requestsGiven e (now p)) + k) (readerOf e p)
+    ∙ ap (λ (at : ℕ). steps (now p) at (length (requestsGiven e (now p)) + k)) (sym (part-of e (now p) .next))
+    ∙ stepping e (now p) k

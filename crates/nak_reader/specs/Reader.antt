@@ -4,13 +4,14 @@ use mathlib.Core.List.{List, [], _∷_}
 use lib.ListN.{length}
 use denote.Ref.{RefT, now}
 use Rattle.outcomes.specs.Outcome.{Outcome, lent}
+use Rattle.nak.specs.declared.Edition.{Edition}
 use Rattle.nak_parser.specs.Parser.{requestsAt, readOutcome}
 use Rattle.nak_parser.specs.Step.{stepOutcome, placeAfter}
 use Rattle.nak_reader.specs.declared.NakReader.{NakReader}
 
 -- The reader of a packet: the caller's own octets, at the first request; of a refused packet, at its end.
-abbrev pub readerOf : RefT (List ℕ) → NakReader
-readerOf p = record { packet = p; at = lent (readOutcome (now p)) (requestsAt (now p)) (length (now p)) }
+abbrev pub readerOf : Edition → RefT (List ℕ) → NakReader
+readerOf e p = record { packet = p; at = lent (readOutcome e (now p)) (requestsAt (now p)) (length (now p)) }
 
 -- The reader after a step: the same octets, at the place after it.
 abbrev pub readerAfter : NakReader → NakReader

@@ -1,4 +1,5 @@
 // A reader over the caller's octets. The struct is taken apart in few, thin functions; the work is in `nak_parser`.
+use nak::Edition;
 use nak_parser::Found;
 use nak_parser::Parsed;
 use nak_parser::Step;
@@ -28,13 +29,14 @@ pub struct Taken<'a> {
     pub reader: NakReader<'a>,
 }
 
-pub fn read<'a>(packet: &'a [u8]) -> ReadNak<'a>
-    ensures { λ r. ⌜ (r .parsed ≡ parsedOf (now (packet .entry)))
-        × ((r .reader ≡ readerOf (packet .entry))
-        × ((now (r .requests) ≡ requestsPart (now (packet .entry)))
-        × (ptr (r .requests) ≡ requestsPtr (packet .entry)))) ⌝ }
+// Reads a packet, on a link of this edition.
+pub fn read<'a>(packet: &'a [u8], edition: Edition) -> ReadNak<'a>
+    ensures { λ r. ⌜ (r .parsed ≡ parsedOf edition (now (packet .entry)))
+        × ((r .reader ≡ readerOf edition (packet .entry))
+        × ((now (r .requests) ≡ requestsPart edition (now (packet .entry)))
+        × (ptr (r .requests) ≡ requestsPtr edition (packet .entry)))) ⌝ }
 {
-    let parsed = nak_parser::parse(packet);
+    let parsed = nak_parser::parse(packet, edition);
     let requests = nak_parser::inner::part(packet, parsed.from, parsed.to);
     ReadNak {
         parsed,
@@ -73,9 +75,9 @@ pub fn step_from(packet: &[u8], at: usize) -> Found
 }
 
 // What `read` says of a packet, in plain values: whoever calls this needs no walk.
-pub fn read_fields(packet: &[u8]) -> Parsed
-    ensures { λ r. ⌜ r ≡ parsedOf (now (packet .entry)) ⌝ }
+pub fn read_fields(packet: &[u8], edition: Edition) -> Parsed
+    ensures { λ r. ⌜ r ≡ parsedOf edition (now (packet .entry)) ⌝ }
 {
-    let got = read(packet);
+    let got = read(packet, edition);
     got.parsed
 }

@@ -32,12 +32,10 @@ checked rec xs o given n =
     let v = w .1 in
     record {
       passed = w .0;
-      identity = v .0;
-      size = v .1 .0;
-      large = v .1 .1 .0;
-      cursor = ltb-false _ _ (v .1 .1 .1 .0);
-      budget = ltb-false _ _ (v .1 .1 .1 .1 .0);
-      room = ltb-false _ _ (v .1 .1 .1 .1 .1 .0);
+      allowed = record { identity = v .0; reserved = v .1 .0; size = v .1 .1 .0; numbers = v .1 .1 .1 .0 };
+      cursor = ltb-false _ _ (v .1 .1 .1 .1 .0);
+      budget = ltb-false _ _ (v .1 .1 .1 .1 .1 .0);
+      room = ltb-false _ _ (v .1 .1 .1 .1 .1 .1 .0);
     }
 
 module _ (rec : Reception) (xs : List ℕ) (o : Order) (buf : List ℕ) where

@@ -15,7 +15,7 @@ use Rattle.nak.specs.declared.Form.{Form}
 use Rattle.nak.specs.declared.Identity.{Identity}
 use Rattle.nak.specs.Pdu.{Nak, saying}
 use Rattle.nak.specs.Inner as writer
-use Rattle.sequence.specs.Entries.{askingFor, entriesOf, entriesIn, endOf, scopeStart, lastEndOf, nakAt}
+use Rattle.sequence.specs.Entries.{askingFor, entriesOf, entriesIn, endOf, scopeStart, scopeEndOf, nakAt}
 use Rattle.nak_sequence.specs.Inner.{entryCount}
 
 pub length-entries : (rec : Reception) (xs : List ℕ) → 2 * rec .count ≤ length xs → length (entriesIn rec xs) ≡ entryCount rec
@@ -73,7 +73,7 @@ count-le rec = go (rec .missing)
 
 -- the PDU that `write_at` is asked for is the one from entry f on
 module _ (g : Form) (d : Identity) (rec : Reception) (xs : List ℕ) (k f s e c : ℕ)
-    (h : 2 * rec .count ≤ length xs) (u : s ≡ scopeStart (entriesIn rec xs) f) (v : e ≡ lastEndOf (entriesIn rec xs) (rec .progress) k f)
+    (h : 2 * rec .count ≤ length xs) (u : s ≡ scopeStart (entriesIn rec xs) f) (v : e ≡ scopeEndOf (entriesIn rec xs) (rec .progress) k f)
     (w : c ≡ min k (entryCount rec - f)) where
   abbrev there : Nak
   there = nakAt (askingFor rec xs g d k) f

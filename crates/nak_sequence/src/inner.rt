@@ -9,7 +9,7 @@ ghost use Rattle.nak.specs.Inner.{GoodLengths};
 ghost use Rattle.nak.specs.Pdu.{pdu, isTooSmall};
 ghost use Rattle.ranges.specs.Store.{mostPairs};
 ghost use Rattle.nak.specs.Writer.{largestPdu};
-ghost use Rattle.sequence.specs.Entries.{askingFor, entriesIn, endOf, scopeStart, roundedUp, nakAt, naks, octetsOf, lastEndOf};
+ghost use Rattle.sequence.specs.Entries.{askingFor, entriesIn, endOf, scopeStart, roundedUp, nakAt, naks, octetsOf, scopeEndOf};
 ghost use Rattle.nak_sequence.specs.Inner.{entryCount, Listed};
 use nak::Form;
 use nak::Identity;
@@ -77,7 +77,7 @@ fn scope_start(rec: Reception, list: &[u64], f: usize) -> u64
 // The scope end of the PDU from entry f on: the end of its last entry, or progress where that is the last of all.
 fn scope_end(rec: Reception, list: &[u64], k: usize, f: usize) -> u64
     requires { ⌜ Listed rec (now list) × ((1 ≤ k) × ((k ≤ largestPdu) × (f < entryCount rec))) ⌝ }
-    ensures { λ r. ⌜ r ≡ lastEndOf (entriesIn rec (now (list .entry))) (rec .progress) k f ⌝ }
+    ensures { λ r. ⌜ r ≡ scopeEndOf (entriesIn rec (now (list .entry))) (rec .progress) k f ⌝ }
 {
     if f + k < entry_count(rec) {
         return entry_end(rec, list, f + k - 1);

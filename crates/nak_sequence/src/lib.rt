@@ -40,6 +40,9 @@ pub fn sequence_checks(
     if bad_identity(identity) {
         return Verdict::Refused(Refusal::BadIdentity);
     }
+    if form.reserved_set() {
+        return Verdict::Refused(Refusal::BadHeader);
+    }
     if inner::bad_size(identity, form, largest) {
         return Verdict::Refused(Refusal::PduSize);
     }

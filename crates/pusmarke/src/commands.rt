@@ -14,6 +14,7 @@ use console_text::inner::words::Arguments;
 
 pub enum Command {
     New,
+    Link,
     Lend,
     Load,
     Poke,
@@ -41,6 +42,9 @@ pub enum Command {
 fn state_named(word: &[u8]) -> Command {
     if words::same(word, b"new") {
         return Command::New;
+    }
+    if words::same(word, b"link") {
+        return Command::Link;
     }
     if words::same(word, b"lend") {
         return Command::Lend;
@@ -149,6 +153,7 @@ fn arguments(
 {
     match command {
         Command::New => new_words(line, from, values),
+        Command::Link => words::take_words(line, from, b"et", values),
         Command::Lend => words::take_words(line, from, b"l", values),
         Command::Load => load_words(line, from, values),
         Command::Poke => words::take_words(line, from, b"n*", values),
@@ -185,6 +190,7 @@ fn answer(
 ) -> State {
     match command {
         Command::New => state::new(s, memory, values[0], values[1], out),
+        Command::Link => state::link(s, values[0], out),
         Command::Lend => state::lend(s, values[0], out),
         Command::Load => state::load(s, values, out),
         Command::Poke => state::poke(s, memory, values[0], values, n, out),

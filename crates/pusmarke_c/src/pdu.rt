@@ -7,13 +7,15 @@ ghost use Rattle.nak.specs.Writer.{writeOutcome, written};
 ghost use Rattle.nak_parser.specs.Parser.{parsedOf};
 ghost use Rattle.nak_parser.specs.Step.{stepOutcome, placeAfter};
 ghost use Rattle.answers.specs.Answer.{answerOf};
-ghost use Rattle.c_values.specs.Input.{identityIn, formIn};
+ghost use Rattle.c_values.specs.Input.{identityIn, formIn, editionIn};
 ghost use Rattle.c_values.specs.Output.{nakOut, stepOut};
 use answers::PusmarkeAnswer;
 use answers::pdu::of_write;
+use c_values::PusmarkeForm;
 use c_values::PusmarkeIdentity;
 use c_values::PusmarkeNak;
 use c_values::PusmarkeStep;
+use c_values::inner::edition_in;
 use c_values::inner::form_in;
 use c_values::inner::identity_in;
 use c_values::pdu::flag_out;
@@ -23,25 +25,26 @@ use c_values::pdu::step_out;
 #[no_mangle]
 pub extern "C" fn pusmarke_write(
     identity: PusmarkeIdentity,
-    large: u64,
+    form: PusmarkeForm,
     scope_start: u64,
     scope_end: u64,
     requests: &[u64],
     buf: &mut [u8],
 ) -> PusmarkeAnswer
-    ensures { λ r. ⌜ r ≡ answerOf (writeOutcome (now (requests .entry)) (saying (formIn large) (identityIn identity) «scope_start» «scope_end» (pairs (now (requests .entry)))) (length (now (buf .entry)))) ⌝ }
-    ensures { λ _. ⌜ now (buf .exit) ≡ written (now (requests .entry)) (saying (formIn large) (identityIn identity) «scope_start» «scope_end» (pairs (now (requests .entry)))) (now (buf .entry)) ⌝ }
+    ensures { λ r. ⌜ r ≡ answerOf (writeOutcome (now (requests .entry)) (saying (formIn form) (identityIn identity) «scope_start» «scope_end» (pairs (now (requests .entry)))) (length (now (buf .entry)))) ⌝ }
+    ensures { λ _. ⌜ now (buf .exit) ≡ written (now (requests .entry)) (saying (formIn form) (identityIn identity) «scope_start» «scope_end» (pairs (now (requests .entry)))) (now (buf .entry)) ⌝ }
 {
     let own = identity_in(identity);
-    let form = form_in(large);
-    of_write(nak::writer::write(own, form, scope_start, scope_end, requests, buf))
+    let shape = form_in(form);
+    of_write(nak::writer::write(own, shape, scope_start, scope_end, requests, buf))
 }
 
 #[no_mangle]
-pub extern "C" fn pusmarke_read(packet: &[u8]) -> PusmarkeNak
-    ensures { λ r. ⌜ r ≡ nakOut (parsedOf (now (packet .entry))) ⌝ }
+pub extern "C" fn pusmarke_read(packet: &[u8], older: u64) -> PusmarkeNak
+    ensures { λ r. ⌜ r ≡ nakOut (parsedOf (editionIn older) (now (packet .entry))) ⌝ }
 {
-    let p = nak_parser::parse(packet);
+    let edition = edition_in(older);
+    let p = nak_parser::parse(packet, edition);
     let own = p.identity;
     let form = p.form;
     let flag = form.flag;

@@ -6,6 +6,7 @@ ghost use Rattle.c_values.specs.Input.{recordIn, identityIn, formIn};
 ghost use Rattle.answers.specs.Answer.{answerOf};
 use answers::PusmarkeAnswer;
 use answers::pdus::of_sequence;
+use c_values::PusmarkeForm;
 use c_values::PusmarkeIdentity;
 use c_values::PusmarkeReception;
 use c_values::inner::form_in;
@@ -17,23 +18,23 @@ pub extern "C" fn pusmarke_nak_sequence(
     rec: PusmarkeReception,
     list: &[u64],
     identity: PusmarkeIdentity,
-    large: u64,
+    form: PusmarkeForm,
     largest: usize,
     cursor: usize,
     budget: usize,
     buf: &mut [u8],
 ) -> PusmarkeAnswer
-    ensures { λ r. ⌜ r ≡ answerOf (sequenceOutcome (recordIn rec) (now (list .entry)) (order (identityIn identity) (formIn large) largest cursor budget) (length (now (buf .entry)))) ⌝ }
-    ensures { λ _. ⌜ now (buf .exit) ≡ sequenceBuffer (recordIn rec) (now (list .entry)) (order (identityIn identity) (formIn large) largest cursor budget) (now (buf .entry)) ⌝ }
+    ensures { λ r. ⌜ r ≡ answerOf (sequenceOutcome (recordIn rec) (now (list .entry)) (order (identityIn identity) (formIn form) largest cursor budget) (length (now (buf .entry)))) ⌝ }
+    ensures { λ _. ⌜ now (buf .exit) ≡ sequenceBuffer (recordIn rec) (now (list .entry)) (order (identityIn identity) (formIn form) largest cursor budget) (now (buf .entry)) ⌝ }
 {
     let own = record_in(rec);
     let asking = identity_in(identity);
-    let form = form_in(large);
+    let shape = form_in(form);
     of_sequence(nak_sequence::write_nak_sequence(
         own,
         list,
         asking,
-        form,
+        shape,
         largest,
         cursor,
         budget,

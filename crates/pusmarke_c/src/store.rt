@@ -5,7 +5,7 @@ ghost use Rattle.segment_store.specs.Remove.{removeOutcome, removeList};
 ghost use Rattle.segment_store.specs.Coalesce.{coalesceOutcome, coalesceList};
 ghost use Rattle.segment_store.specs.Insert.{insertOutcome, insertList};
 ghost use Rattle.segment_store.specs.SegmentInStore.{inStoreOutcome};
-ghost use Rattle.segment_store.specs.WriteSegmentsToBytes.{writeOutcome, writeBuffer};
+ghost use Rattle.segment_store.specs.WriteSegmentsToBytes.{toBytesOutcome, toBytesBuffer};
 ghost use Rattle.c_values.specs.Input.{storeOf, flagIn};
 ghost use Rattle.answers.specs.Answer.{answerOf};
 use answers::PusmarkeAnswer;
@@ -100,8 +100,8 @@ pub extern "C" fn pusmarke_write_segments_to_bytes(
     large: u64,
     buf: &mut [u8],
 ) -> PusmarkeAnswer
-    ensures { λ r. ⌜ r ≡ answerOf (writeOutcome (now (list .entry)) (storeOf count narrow) (flagIn large) (now (buf .entry))) ⌝ }
-    ensures { λ _. ⌜ now (buf .exit) ≡ writeBuffer (now (list .entry)) (storeOf count narrow) (flagIn large) (now (buf .entry)) ⌝ }
+    ensures { λ r. ⌜ r ≡ answerOf (toBytesOutcome (now (list .entry)) (storeOf count narrow) (flagIn large) (now (buf .entry))) ⌝ }
+    ensures { λ _. ⌜ now (buf .exit) ≡ toBytesBuffer (now (list .entry)) (storeOf count narrow) (flagIn large) (now (buf .entry)) ⌝ }
 {
     let store = store_of(count, narrow);
     let flag = flag_in(large);

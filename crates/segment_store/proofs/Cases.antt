@@ -13,7 +13,7 @@ use Rattle.segment_store.specs.Remove.{removeCase}
 use Rattle.segment_store.specs.Coalesce.{coalesceCase}
 use Rattle.segment_store.specs.Insert.{insertCase}
 use Rattle.segment_store.specs.SegmentInStore.{inStoreCase}
-use Rattle.segment_store.specs.WriteSegmentsToBytes.{writeCase}
+use Rattle.segment_store.specs.WriteSegmentsToBytes.{toBytesCase}
 use Rattle.segment_store.specs.declared.add.AddAnswer.{AddAnswer}
 use Rattle.segment_store.specs.declared.add.AddAnswer.the-variants as add
 use Rattle.segment_store.specs.declared.remove.RemoveAnswer.{RemoveAnswer}
@@ -72,7 +72,7 @@ one-in-store (inStore.Refused r) inStore.Yes e = absurd (no-refusal r e)
 one-in-store (inStore.Refused r) inStore.No e = absurd (no-refusal r e)
 one-in-store (inStore.Refused r) (inStore.Refused s) e = ap (λ (q : Refusal). inStore.Refused q) (one-refusal r s e)
 
-pub one-write : (r s : WriteAnswer) → writeCase r ≡ writeCase s → r ≡ s
+pub one-write : (r s : WriteAnswer) → toBytesCase r ≡ toBytesCase s → r ≡ s
 one-write (write.Written m) (write.Written n) e = ap (λ (k : ℕ). write.Written k) (ap (value 0) e)
 one-write (write.Written m) (write.Refused s) e = absurd (no-refusal s (sym e))
 one-write (write.Refused r) (write.Written n) e = absurd (no-refusal r e)

@@ -19,25 +19,25 @@ use Rattle.segment_store.specs.declared.write_segments_to_bytes.WriteAns
 use Rattle.segment_store.specs.declared.write_segments_to_bytes.WriteAnswer.the-variants as answer
 
 -- The number and the values of each case of the answer; an accepted call hands back the number of octets written.
-abbrev pub writeCase : WriteAnswer → Outcome
-writeCase (answer.Written octets) = accepted (octets ∷ [])
-writeCase (answer.Refused r) = refusing r
+abbrev pub toBytesCase : WriteAnswer → Outcome
+toBytesCase (answer.Written octets) = accepted (octets ∷ [])
+toBytesCase (answer.Refused r) = refusing r
 
 -- The octets that the counted pairs take: count × 2F.
 abbrev pub writeLength : Store → LargeFileFlag → ℕ
 writeLength st flag = st .count * (2 * fieldLength flag)
 
 -- Checks: 10, 6 (the buffer's length, given, must equal count × 2F), 7.
-abbrev pub writeChecks : List ℕ → Store → LargeFileFlag → ℕ → List Check
-writeChecks xs st flag given =
+abbrev pub toBytesChecks : List ℕ → Store → LargeFileFlag → ℕ → List Check
+toBytesChecks xs st flag given =
     (isBad xs st, refusal.BadStore)
     ∷ (not (eqb given (writeLength st flag)), refusal.BufferSizeMissmatch (writeLength st flag) given)
     ∷ (anyAbove (largestOf flag) (take (2 * st .count) xs), refusal.LargeSegmentForNormalFileSize)
     ∷ []
 
-abbrev pub writeOutcome : List ℕ → Store → LargeFileFlag → List ℕ → Outcome
-writeOutcome xs st flag buf = firstOf (writeChecks xs st flag (length buf)) (accepted (writeLength st flag ∷ []))
+abbrev pub toBytesOutcome : List ℕ → Store → LargeFileFlag → List ℕ → Outcome
+toBytesOutcome xs st flag buf = firstOf (toBytesChecks xs st flag (length buf)) (accepted (writeLength st flag ∷ []))
 
 -- The buffer afterwards: the fields of the counted numbers in order.
-abbrev pub writeBuffer : List ℕ → Store → LargeFileFlag → List ℕ → List ℕ
-writeBuffer xs st flag buf = lent (writeOutcome xs st flag buf) (fields (fieldLength flag) (take (2 * st .count) xs)) buf
+abbrev pub toBytesBuffer : List ℕ → Store → LargeFileFlag → List ℕ → List ℕ
+toBytesBuffer xs st flag buf = lent (toBytesOutcome xs st flag buf) (fields (fieldLength flag) (take (2 * st .count) xs)) buf

@@ -16,7 +16,6 @@ use Rattle.ranges.proofs.Covering.{above-covers, at-covers}
 use Rattle.ranges.proofs.Fewest.{fewest}
 use Rattle.ranges.proofs.Test.{and-none}
 use Rattle.nak.specs.Request.{metadataAsked}
-use Rattle.nak.specs.Writer.{isBadIdentity}
 use Rattle.reception.specs.History.{Event, State, fresh, run, rangesOf, metadataCame, kept, largestEnd, toldSize, Missing}
 use Rattle.reception.specs.Record.{Passed}
 use Rattle.ranges.specs.Store.{mostPairs}
@@ -24,7 +23,7 @@ use Rattle.reception.proofs.Records.{mark-metadata, progress-largest}
 use Rattle.reception.proofs.Answered.{size-is-progress}
 use Rattle.reception.proofs.Histories.{missing-exact, list-coalesced, always-sound}
 use Rattle.sequence.specs.Entries.{Asking, entriesOf, roundedUp, naks, octetsOf}
-use Rattle.sequence.specs.Sequence.{Order, isBadSize, isTooLarge, asked}
+use Rattle.sequence.specs.Sequence.{Order, Allowed, asked}
 use Rattle.sequence.specs.Calls.{Call, Fits, AllFit, answered, cursorAfter, pdusBy, octetsBy, budgets, wholeSequence}
 use Rattle.sequence.specs.Parted.{parted, joined, AllRead, ScopesJoin, requestsRead}
 use Rattle.sequence.proofs.Sizes.{each-low}
@@ -71,13 +70,11 @@ length-entries : (m : Bool) (rs : List Range) → length (entriesOf m rs) ≡ le
 length-entries true rs = omega arith
 length-entries false rs = omega arith
 
--- a run of calls on the record that any history leaves, for an order that checks 13, 14 and 7 pass
+-- a run of calls on the record that any history leaves, for an order that is allowed
 module _
     (w : Width) (xs : List ℕ) (N : ℕ) (size : length xs ≡ 2 * N) (few : N ≤ mostPairs) (es : List Event)
     (o : Order)
-    (id : isBadIdentity (o .identity) ≡ false)
-    (sz : isBadSize o ≡ false)
-    (lg : isTooLarge (run (fresh w xs) es .rec) (run (fresh w xs) es .list) (o .form) ≡ false)
+    (ok : Allowed (run (fresh w xs) es .rec) (run (fresh w xs) es .list) o)
     (cs : List Call) (fit : AllFit o cs)
   where
     abbrev reached : State
@@ -97,60 +94,60 @@ module _
     count = min (budgets cs) (roundedUp (length (a .entries) - 0) (a .each))
 
     some-octets : octets ≡ octetsOf (naks a 0 count)
-    some-octets = ran (reached .rec) (reached .list) o sound id sz lg cs 0 (omega arith) fit .octets
+    some-octets = ran (reached .rec) (reached .list) o sound ok cs 0 (omega arith) fit .octets
 
     parts : parted octets ≡ pdus (naks a 0 count)
-    parts = ap parted some-octets ∙ parted-naks (reached .rec) (reached .list) o sound id sz lg 0 count
+    parts = ap parted some-octets ∙ parted-naks (reached .rec) (reached .list) o sound ok 0 count
 
     -- a further call whose budget is at most 16 and whose buffer has room is accepted
     pub calls-accepted : (c : Call) → Fits o c → answered (reached .rec) (reached .list) o (cursorAfter (reached .rec) (reached .list) o 0 cs) c .number ≡ 0
-    calls-accepted c f = run-accepted (reached .rec) (reached .list) o sound id sz lg cs c fit f
+    calls-accepted c f = run-accepted (reached .rec) (reached .list) o sound ok cs c fit f
 
     -- as many PDUs stand in the buffers as the answers report, and nothing else
     pub calls-parted : (length (parted octets) ≡ pdusBy (reached .rec) (reached .list) o 0 cs) × (joined (parted octets) ≡ octets)
     calls-parted =
-        let r = ran (reached .rec) (reached .list) o sound id sz lg cs 0 (omega arith) fit .pdus in (
+        let r = ran (reached .rec) (reached .list) o sound ok cs 0 (omega arith) fit .pdus in (
           ap length parts ∙ length-pdus (naks a 0 count) ∙ length-naks a 0 count ∙ sym r,
           ap joined parts ∙ joined-pdus (naks a 0 count) ∙ sym some-octets,
         )
 
     -- the reader accepts each, none is longer than P, and each carries the identity and the form of the order
     pub calls-read : AllRead (o .largest) (o .identity) (o .form) (parted octets)
-    calls-read = rw parts (all-read (reached .rec) (reached .list) o sound id sz lg 0 count)
+    calls-read = rw parts (all-read (reached .rec) (reached .list) o sound ok 0 count)
 
     -- once the budgets suffice
     module _ (enough : roundedUp (length (a .entries)) (a .each) ≤ budgets cs) where
       -- the octets are those of the whole sequence
       pub calls-whole : octets ≡ wholeSequence (reached .rec) (reached .list) o
-      calls-whole = run-whole (reached .rec) (reached .list) o sound id sz lg cs fit enough
+      calls-whole = run-whole (reached .rec) (reached .list) o sound ok cs fit enough
 
       -- the PDUs reported add up to E/k, rounded up, and the cursor is E
       pub calls-pdus : pdusBy (reached .rec) (reached .list) o 0 cs ≡ roundedUp (length (a .entries)) (a .each)
-      calls-pdus = run-pdus (reached .rec) (reached .list) o sound id sz lg cs fit enough
+      calls-pdus = run-pdus (reached .rec) (reached .list) o sound ok cs fit enough
 
       pub calls-cursor : cursorAfter (reached .rec) (reached .list) o 0 cs ≡ length (a .entries)
-      calls-cursor = run-cursor (reached .rec) (reached .list) o sound id sz lg cs fit enough
+      calls-cursor = run-cursor (reached .rec) (reached .list) o sound ok cs fit enough
 
       every : count ≡ roundedUp (length (a .entries)) (a .each)
       every =
           ap (λ (n : ℕ). min (budgets cs) (roundedUp n (a .each))) {x = length (a .entries) - 0} {y = length (a .entries)} (omega arith) ∙ omega arith
 
       -- where there is an entry, the scopes read join from 0 to progress
-      pub calls-scopes : 1 ≤ length (a .entries) → ScopesJoin 0 (reached .rec .progress) (parted octets)
-      calls-scopes h = rw parts (scopes-join (reached .rec) (reached .list) o sound id sz lg count every h)
+      pub calls-scopes : 1 ≤ length (a .entries) → ScopesJoin (o .form .edition) 0 (reached .rec .progress) (parted octets)
+      calls-scopes h = rw parts (scopes-join (reached .rec) (reached .list) o sound ok count every h)
 
       -- the requests read are the entries, in order
-      requests : requestsRead (parted octets) ≡ entriesOf (reached .rec .missing) (rangesOf reached)
+      pub requests : requestsRead (o .form .edition) (parted octets) ≡ entriesOf (reached .rec .missing) (rangesOf reached)
       requests =
-          let u = up-enough (length (a .entries)) (a .each) (each-low o sz) in
+          let u = up-enough (length (a .entries)) (a .each) (each-low o (ok .size)) in
           let m : length (a .entries) ≤ count * a .each = rw every u in
-          ap requestsRead parts
-          ∙ requests-read (reached .rec) (reached .list) o sound id sz lg 0 count
+          ap (requestsRead (o .form .edition)) parts
+          ∙ requests-read (reached .rec) (reached .list) o sound ok 0 count
           ∙ requests-naks a 0 count
           ∙ take-all (count * a .each) (a .entries) m
 
       -- they name each missing octet and no other
-      pub names-missing : (x : ℕ) → Covers x (requestsRead (parted octets)) ↔ Missing (fresh w xs) es x
+      pub names-missing : (x : ℕ) → Covers x (requestsRead (o .form .edition) (parted octets)) ↔ Missing (fresh w xs) es x
       names-missing x =
           let c = entries-cover (reached .rec .missing) (rangesOf reached) x in
           let m = missing-exact w xs N size few es x in
@@ -159,20 +156,20 @@ module _
       -- once an EOF told the size z, they name exactly the octets below z that no kept range covers, the tail among them, and the last
       -- scope ends at z
       pub names-tail : (z : ℕ) → toldSize (fresh w xs) es ≡ z ∷ []
-          → ((x : ℕ) → Covers x (requestsRead (parted octets)) ↔ ((x < z) × (Covers x (kept (fresh w xs) es) → ⊥)))
-          × (1 ≤ length (a .entries) → ScopesJoin 0 z (parted octets))
+          → ((x : ℕ) → Covers x (requestsRead (o .form .edition) (parted octets)) ↔ ((x < z) × (Covers x (kept (fresh w xs) es) → ⊥)))
+          × (1 ≤ length (a .entries) → ScopesJoin (o .form .edition) 0 z (parted octets))
       names-tail z e =
           let p = size-is-progress w xs N size few es z e in
           let q : largestEnd (fresh w xs) es ≡ z = sym (progress-largest w xs es) ∙ p in
           (λ x. rw q at (names-missing x), λ h. rw p at (calls-scopes h))
 
       -- each once
-      pub names-once : (x i j : ℕ) → i < length (requestsRead (parted octets)) → j < length (requestsRead (parted octets))
-          → In x (getD (requestsRead (parted octets)) i (range 0 0)) → In x (getD (requestsRead (parted octets)) j (range 0 0)) → i ≡ j
+      pub names-once : (x i j : ℕ) → i < length (requestsRead (o .form .edition) (parted octets)) → j < length (requestsRead (o .form .edition) (parted octets))
+          → In x (getD (requestsRead (o .form .edition) (parted octets)) i (range 0 0)) → In x (getD (requestsRead (o .form .edition) (parted octets)) j (range 0 0)) → i ≡ j
       names-once = rw requests (entry-once (reached .rec .missing) (rangesOf reached) (list-coalesced w xs N size few es))
 
       -- they ask for metadata once exactly if it is missing: if no metadata event was accepted
-      pub metadata-once : metadataAsked (requestsRead (parted octets)) ≡ cond (metadataCame (fresh w xs) es) 0 1
+      pub metadata-once : metadataAsked (requestsRead (o .form .edition) (parted octets)) ≡ cond (metadataCame (fresh w xs) es) 0 1
       metadata-once =
           ap metadataAsked requests
           ∙ metadata-entries (reached .rec .missing) (rangesOf reached) (list-coalesced w xs N size few es)
@@ -180,7 +177,7 @@ module _
 
       -- and no list of fewer ranges names the same octets
       pub names-fewest : (qs : List Range) → ((x : ℕ) → Covers x qs ↔ Missing (fresh w xs) es x)
-          → length (requestsRead (parted octets)) ≤ length qs + cond (metadataCame (fresh w xs) es) 0 1
+          → length (requestsRead (o .form .edition) (parted octets)) ≤ length qs + cond (metadataCame (fresh w xs) es) 0 1
       names-fewest qs f =
           let m = missing-exact w xs N size few es in
           let k =

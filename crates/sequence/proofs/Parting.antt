@@ -12,14 +12,14 @@ use Rattle.ranges.specs.Range.{Range}
 use Rattle.outcomes.specs.Outcome.{Outcome, accepted}
 use Rattle.octets.specs.Octets.{number}
 use Rattle.nak.specs.Pdu.{Nak, pdu}
-use Rattle.nak.specs.Writer.{isBadIdentity}
+use Rattle.nak.specs.declared.Edition.{Edition}
 use Rattle.nak_parser.specs.Parser.{octetAt, entityLengthIn, numberLengthIn, headerLengthIn, lengthField, parsedOf, readOutcome}
 use Rattle.nak_parser.specs.Step.{requestsGiven}
 use Rattle.nak_parser.proofs.Reading.{read-of}
 use Rattle.reception.specs.declared.Reception.{Reception}
 use Rattle.reception.specs.Record.{Passed}
 use Rattle.sequence.specs.Entries.{Asking, roundedUp, scopeStart, nakAt, naks, octetsOf}
-use Rattle.sequence.specs.Sequence.{Order, isBadSize, isTooLarge, asked}
+use Rattle.sequence.specs.Sequence.{Order, Allowed, asked}
 use Rattle.sequence.specs.Parted.{saidLength, partedBy, parted, joined, AllRead, ScopesJoin, requestsRead}
 use Rattle.sequence.proofs.Sizes.{some-each, each-low, pdu-short}
 use Rattle.sequence.proofs.Readable.{scope-next, scope-end, pdu-readable}
@@ -44,8 +44,8 @@ module _ (p os : List ℕ) (h : 4 ≤ length p) where
   same-length = ap₂ _+_ same-header same-field
 
 -- an accepted packet is as long as it says
-said : (p : List ℕ) → readOutcome p ≡ accepted [] → (4 ≤ length p) × (saidLength p ≡ length p)
-said p e = let s = read-of p (ap (λ (o : Outcome). o .number) e) .shape in (s .enough, sym (s .total))
+said : (v : Edition) (p : List ℕ) → readOutcome v p ≡ accepted [] → (4 ≤ length p) × (saidLength p ≡ length p)
+said v p e = let s = read-of v p (ap (λ (o : Outcome). o .number) e) .shape in (s .enough, sym (s .total))
 
 one-part : (m : ℕ) (os : List ℕ) → 1 ≤ length os → partedBy (suc m) os ≡ take (saidLength os) os ∷ partedBy m (drop (saidLength os) os)
 one-part m [] h = absurd (omega arith)
@@ -82,25 +82,23 @@ requests-naks a f (suc n) =
     ap (λ (l : List Range). take k (drop f (a .entries)) ++ l) (requests-naks a (f + k) n ∙ ap (take (n * k)) (sym (drop-drop k f (a .entries))))
     ∙ sym (ap (λ (m : ℕ). take m (drop f (a .entries))) e ∙ take-add k (n * k) (drop f (a .entries)))
 
--- the PDUs of a sound record and an order that checks 13, 14 and 7 pass
+-- the PDUs of a sound record and an order that is allowed
 module _
     (rec : Reception) (xs : List ℕ) (o : Order)
     (ps : Passed xs rec)
-    (id : isBadIdentity (o .identity) ≡ false)
-    (sz : isBadSize o ≡ false)
-    (lg : isTooLarge rec xs (o .form) ≡ false)
+    (ok : Allowed rec xs o)
   where
     abbrev a : Asking
     a = asked rec xs o
 
-    read : (f : ℕ) → readOutcome (pdu (nakAt a f)) ≡ accepted []
-    read f = pdu-readable rec xs o ps id sz lg f .0
+    read : (f : ℕ) → readOutcome (o .form .edition) (pdu (nakAt a f)) ≡ accepted []
+    read f = pdu-readable rec xs o ps ok f .0
 
     parted-in : (f n m : ℕ) → length (octetsOf (naks a f n)) ≤ m → partedBy m (octetsOf (naks a f n)) ≡ pdus (naks a f n)
     parted-in f zero m h = no-part m
     parted-in f (suc n) m h =
         let p : List ℕ = pdu (nakAt a f) in
-        let s = said p (read f) in
+        let s = said (o .form .edition) p (read f) in
         let l = length-append p (octetsOf (naks a (f + a .each) n)) in
         go m h (s .0) (s .1) l (parted-in (f + a .each) n)
       where
@@ -127,40 +125,40 @@ module _
     pub all-read : (f n : ℕ) → AllRead (o .largest) (o .identity) (o .form) (pdus (naks a f n))
     all-read f zero = tt
     all-read f (suc n) =
-        let s = pdu-readable rec xs o ps id sz lg f .1 in
-        (s .refusal, pdu-short a (o .largest) f refl (some-each o sz), s .identity, s .form, all-read (f + a .each) n)
+        let s = pdu-readable rec xs o ps ok f .1 in
+        (s .refusal, pdu-short a (o .largest) f refl (some-each o (ok .size)), s .identity, s .form, all-read (f + a .each) n)
 
     -- and gives its requests
-    given : (f : ℕ) → requestsGiven (pdu (nakAt a f)) ≡ nakAt a f .requests
-    given f = let s = pdu-readable rec xs o ps id sz lg f in rw (s .0) (s .1 .requests)
+    given : (f : ℕ) → requestsGiven (o .form .edition) (pdu (nakAt a f)) ≡ nakAt a f .requests
+    given f = let s = pdu-readable rec xs o ps ok f in rw (s .0) (s .1 .requests)
 
-    pub requests-read : (f n : ℕ) → requestsRead (pdus (naks a f n)) ≡ requestsOfAll (naks a f n)
+    pub requests-read : (f n : ℕ) → requestsRead (o .form .edition) (pdus (naks a f n)) ≡ requestsOfAll (naks a f n)
     requests-read f zero = refl
     requests-read f (suc n) = ap₂ _++_ (given f) (requests-read (f + a .each) n)
 
     -- the scopes of n + 1 PDUs that hold the entries from f on join up to progress
     joins : (n f : ℕ) → f + n * a .each < length (a .entries) → length (a .entries) ≤ f + suc n * a .each
-        → ScopesJoin (scopeStart (a .entries) f) (rec .progress) (pdus (naks a f (suc n)))
+        → ScopesJoin (o .form .edition) (scopeStart (a .entries) f) (rec .progress) (pdus (naks a f (suc n)))
     joins zero f l u =
-        let s = pdu-readable rec xs o ps id sz lg f .1 in
+        let s = pdu-readable rec xs o ps ok f .1 in
         let m = one-mul (a .each) in
-        (s .scope-start, s .scope-end ∙ scope-end rec xs o ps id sz lg f (omega arith))
+        (s .scope-start, s .scope-end ∙ scope-end rec xs o ps ok f (omega arith))
     joins (suc n) f l u =
-        let s = pdu-readable rec xs o ps id sz lg f .1 in
+        let s = pdu-readable rec xs o ps ok f .1 in
         let k : ℕ = a .each in
         let m = suc-mul n k in
         let v = suc-mul (suc n) k in
-        let e : parsedOf (pdu (nakAt a f)) .«scope_end» ≡ scopeStart (a .entries) (f + k) = s .scope-end ∙ scope-next rec xs o ps id sz lg f (omega arith) in
+        let e : parsedOf (o .form .edition) (pdu (nakAt a f)) .«scope_end» ≡ scopeStart (a .entries) (f + k) = s .scope-end ∙ scope-next rec xs o ps ok f (omega arith) in
         (s .scope-start, rw e (joins n (f + k) (omega arith) (omega arith)))
 
-    pub scopes-join : (n : ℕ) → n ≡ roundedUp (length (a .entries)) (a .each) → 1 ≤ length (a .entries) → ScopesJoin 0 (rec .progress) (pdus (naks a 0 n))
-    scopes-join n e h = go n e (up-enough (length (a .entries)) (a .each) (each-low o sz))
+    pub scopes-join : (n : ℕ) → n ≡ roundedUp (length (a .entries)) (a .each) → 1 ≤ length (a .entries) → ScopesJoin (o .form .edition) 0 (rec .progress) (pdus (naks a 0 n))
+    scopes-join n e h = go n e (up-enough (length (a .entries)) (a .each) (each-low o (ok .size)))
       where
         go : (n : ℕ) → n ≡ roundedUp (length (a .entries)) (a .each) → length (a .entries) ≤ roundedUp (length (a .entries)) (a .each) * a .each
-            → ScopesJoin 0 (rec .progress) (pdus (naks a 0 n))
+            → ScopesJoin (o .form .edition) 0 (rec .progress) (pdus (naks a 0 n))
         go zero e u = let z = zero-mul (a .each) in absurd (omega (arith, rw (← e) at u))
         go (suc n) e u =
             let r : roundedUp (length (a .entries) - 0) (a .each) ≡ suc n =
             ap (λ (m : ℕ). roundedUp m (a .each)) {x = length (a .entries) - 0} {y = length (a .entries)} (omega arith) ∙ sym e in
-            let b = begins-before (length (a .entries)) 0 (a .each) n (each-low o sz) (omega (arith, r)) in
+            let b = begins-before (length (a .entries)) 0 (a .each) n (each-low o (ok .size)) (omega (arith, r)) in
             joins n 0 b (omega (arith, rw (← e) at u))

@@ -18,7 +18,7 @@ use Rattle.octets.specs.Flag.{largestOf}
 use Rattle.nak.specs.Pdu.{pdu}
 use Rattle.nak.specs.Request.{isMetadata, checksFrom, requestsChecks}
 use Rattle.outcomes.specs.Checks.{NoneOf}
-use Rattle.nak.specs.Writer.{isBadIdentity, nakOutcome}
+use Rattle.nak.specs.Writer.{nakOutcome}
 use Rattle.nak.proofs.Checks.{NakFine, fine-nak}
 use Rattle.nak_parser.specs.Parser.{Says, readOutcome}
 use Rattle.nak_parser.proofs.RoundTrip.{parsed-says, pdu-accepted, read-pdu}
@@ -27,7 +27,7 @@ use Rattle.reception.proofs.Sound.{sound}
 use Rattle.reception.specs.declared.Reception.{Reception}
 use Rattle.ranges.proofs.Last.{ends-le, last-tail}
 use Rattle.sequence.specs.Entries.{Asking, asking, entriesOf, endOf, scopeStart, scopeEnd, nakAt}
-use Rattle.sequence.specs.Sequence.{Order, isBadSize, isTooLarge, asked}
+use Rattle.sequence.specs.Sequence.{Order, isTooLarge, Allowed, asked}
 use Rattle.sequence.proofs.Sizes.{some-each, each-low, pdu-short, small-size}
 
 -- ranges that are not empty and end at p or before
@@ -158,7 +158,7 @@ small-progress : (rec : Reception) (xs : List ℕ) (g : Form) → isTooLarge rec
 unfolding isTooLarge
 small-progress rec xs g e = ltb-false (largestOf (g .flag)) (rec .progress) (or-false _ _ e .0)
 
-module _ (rec : Reception) (xs : List ℕ) (o : Order) (ps : Passed xs rec) (id : isBadIdentity (o .identity) ≡ false) (sz : isBadSize o ≡ false) (lg : isTooLarge rec xs (o .form) ≡ false) where
+module _ (rec : Reception) (xs : List ℕ) (o : Order) (ps : Passed xs rec) (ok : Allowed rec xs o) where
   abbrev a : Asking
   a = asked rec xs o
 
@@ -169,26 +169,27 @@ module _ (rec : Reception) (xs : List ℕ) (o : Order) (ps : Passed xs rec) (id 
   within = above-within 0 (rec .progress) (counted xs (rec .count)) whole (sound xs rec ps .above)
 
   pub scope-next : (f : ℕ) → f + a .each < length (a .entries) → scopeEnd a f ≡ scopeStart (a .entries) (f + a .each)
-  scope-next = scope-joined (rec .missing) (rec .progress) (a .each) (counted xs (rec .count)) (each-low o sz) whole within (o .form) (o .identity)
+  scope-next = scope-joined (rec .missing) (rec .progress) (a .each) (counted xs (rec .count)) (each-low o (ok .size)) whole within (o .form) (o .identity)
 
   pub scope-end : (f : ℕ) → length (a .entries) ≤ f + a .each → scopeEnd a f ≡ rec .progress
-  scope-end = scope-last (rec .missing) (rec .progress) (a .each) (counted xs (rec .count)) (each-low o sz) whole within (o .form) (o .identity)
+  scope-end = scope-last (rec .missing) (rec .progress) (a .each) (counted xs (rec .count)) (each-low o (ok .size)) whole within (o .form) (o .identity)
 
   -- every PDU of the sequence is within the limits
   pub pdu-fine : (f : ℕ) → NakFine (nakAt a f)
   pdu-fine f =
-      let l = small-size o sz in
-      let q = pdu-short a (o .largest) f refl (some-each o sz) in
+      let l = small-size o (ok .size) in
+      let q = pdu-short a (o .largest) f refl (some-each o (ok .size)) in
       record {
-        identity = id;
-        scope = scope-ordered (rec .missing) (rec .progress) (a .each) (counted xs (rec .count)) (each-low o sz) whole within (o .form) (o .identity) f;
+        identity = ok .identity;
+        reserved = ok .reserved;
+        scope = scope-ordered (rec .missing) (rec .progress) (a .each) (counted xs (rec .count)) (each-low o (ok .size)) whole within (o .form) (o .identity) f;
         requests = entries-fine (rec .missing) (rec .progress) (a .each) f (counted xs (rec .count)) within;
-        numbers = numbers-fine (rec .missing) (rec .progress) (a .each) (counted xs (rec .count)) (each-low o sz) whole within (o .form) (o .identity) f (small-progress rec xs (o .form) lg);
+        numbers = numbers-fine (rec .missing) (rec .progress) (a .each) (counted xs (rec .count)) (each-low o (ok .size)) whole within (o .form) (o .identity) f (small-progress rec xs (o .form) (ok .numbers));
         size = omega arith;
       }
 
   -- so the reader accepts it and gives back what it says
-  pub pdu-readable : (f : ℕ) → (readOutcome (pdu (nakAt a f)) ≡ accepted []) × Says (pdu (nakAt a f)) (nakAt a f)
+  pub pdu-readable : (f : ℕ) → (readOutcome (o .form .edition) (pdu (nakAt a f)) ≡ accepted []) × Says (pdu (nakAt a f)) (nakAt a f)
   pdu-readable f =
       let n = nakAt a f in
       let e : nakOutcome n ≡ accepted [] = fine-nak n (pdu-fine f) in

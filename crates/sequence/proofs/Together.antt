@@ -13,11 +13,10 @@ use lib.Dec.{eqb}
 use borrow.Author.Tests.{ne-eqb}
 use Rattle.outcomes.specs.Outcome.{Outcome, accepted, lent}
 use Rattle.nak.specs.Pdu.{Nak, pdu}
-use Rattle.nak.specs.Writer.{isBadIdentity}
 use Rattle.reception.specs.declared.Reception.{Reception}
 use Rattle.reception.specs.Record.{Passed}
 use Rattle.sequence.specs.Entries.{Asking, roundedUp, nakAt, naks, octetsOf}
-use Rattle.sequence.specs.Sequence.{Order, isBadSize, isTooLarge, asked, sent, newCursor, reported}
+use Rattle.sequence.specs.Sequence.{Order, isBadSize, Allowed, asked, sent, newCursor, reported}
 use Rattle.sequence.specs.Calls.{Call, Fits, AllFit, calling, answered, bufferAfter, pdusIn, octetsIn, cursorIn, cursorAfter, pdusBy, octetsBy, budgets, wholeSequence}
 use Rattle.sequence.proofs.Accepted.{seq-sent}
 use Rattle.sequence.proofs.Sizes.{each-low}
@@ -158,15 +157,13 @@ module _ (rec : Reception) (xs : List ℕ) (o : Order) (j : ℕ) (c : Call) (r :
 module _
     (rec : Reception) (xs : List ℕ) (o : Order)
     (ps : Passed xs rec)
-    (id : isBadIdentity (o .identity) ≡ false)
-    (sz : isBadSize o ≡ false)
-    (lg : isTooLarge rec xs (o .form) ≡ false)
+    (ok : Allowed rec xs o)
   where
     abbrev a : Asking
     a = asked rec xs o
 
     abbrev each : 1 ≤ a .each
-    each = each-low o sz
+    each = each-low o (ok .size)
 
     -- the PDUs from entry f on
     abbrev from : ℕ → ℕ
@@ -175,15 +172,15 @@ module _
     abbrev reports : ℕ → Call → Outcome
     reports j c = reported a (calling o j c)
 
-    sizes : (j : ℕ) (c : Call) → isBadSize (calling o j c) ≡ false
+    still : (j : ℕ) (c : Call) → Allowed rec xs (calling o j c)
     unfolding isBadSize
-    sizes j c = sz
+    still j c = record { identity = ok .identity; reserved = ok .reserved; size = ok .size; numbers = ok .numbers }
 
     -- a call whose budget is at most 16 and whose buffer has room is accepted
     pub call-sent : (j : ℕ) (c : Call) → j ≤ length (a .entries) → Fits o c → answered rec xs o j c ≡ reports j c
     call-sent j c l f =
         sym (seq-sent rec xs (calling o j c) (length (c .buffer))
-        (record { passed = ps; identity = id; size = sizes j c; large = lg; cursor = l; budget = f .0; room = f .1 }))
+        (record { passed = ps; allowed = still j c; cursor = l; budget = f .0; room = f .1 }))
 
     call-octets : (j : ℕ) (c : Call) → j ≤ length (a .entries) → Fits o c
         → take (octetsIn (answered rec xs o j c)) (bufferAfter rec xs o j c) ≡ sent a (calling o j c)

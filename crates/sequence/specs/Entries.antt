@@ -47,11 +47,11 @@ scopeStart es zero = 0
 scopeStart es (suc f) = endOf es f
 
 -- Scope end is the end of the PDU's last entry, or progress in the PDU holding the last entry.
-abbrev pub lastEndOf : List Range → ℕ → ℕ → ℕ → ℕ
-lastEndOf es progress k f = cond (ltb (f + k) (length es)) (endOf es (f + k - 1)) progress
+abbrev pub scopeEndOf : List Range → ℕ → ℕ → ℕ → ℕ
+scopeEndOf es progress k f = cond (ltb (f + k) (length es)) (endOf es (f + k - 1)) progress
 
 abbrev pub scopeEnd : Asking → ℕ → ℕ
-scopeEnd a f = lastEndOf (a .entries) (a .progress) (a .each) f
+scopeEnd a f = scopeEndOf (a .entries) (a .progress) (a .each) f
 
 -- The PDU from entry f on: at most k entries.
 abbrev pub nakAt : Asking → ℕ → Nak

@@ -5,6 +5,7 @@ use mathlib.Core.Bool.{cond}
 use mathlib.Core.List.{List, [], _∷_, _++_}
 use lib.ListN.{length, take, drop}
 use Rattle.ranges.specs.Range.{Range}
+use Rattle.nak.specs.declared.Edition.{Edition}
 use Rattle.nak.specs.declared.Form.{Form}
 use Rattle.nak.specs.declared.Identity.{Identity}
 use Rattle.nak.specs.Request.{isMetadata}
@@ -30,19 +31,19 @@ abbrev pub joined : List (List ℕ) → List ℕ
 joined [] = []
 joined (p ∷ ps) = p ++ joined ps
 
--- Each packet is accepted by the reader, is at most so long, and carries this identity and this form.
+-- Each packet is accepted by the reader on a link of the form's edition, is at most so long, and carries this identity and this form.
 abbrev pub AllRead : ℕ → Identity → Form → List (List ℕ) → Type 0
 AllRead largest d g [] = Unit
 AllRead largest d g (p ∷ ps) =
-    (parsedOf p .refusal ≡ 0) × (length p ≤ largest) × (parsedOf p .identity ≡ d) × (parsedOf p .form ≡ g) × AllRead largest d g ps
+    (parsedOf (g .edition) p .refusal ≡ 0) × (length p ≤ largest) × (parsedOf (g .edition) p .identity ≡ d) × (parsedOf (g .edition) p .form ≡ g) × AllRead largest d g ps
 
 -- The scopes that the reader gives of each packet join: the first starts at s, each later one where the one before ends, and the
 -- last ends at e.
-abbrev pub ScopesJoin : ℕ → ℕ → List (List ℕ) → Type 0
-ScopesJoin s e [] = s ≡ e
-ScopesJoin s e (p ∷ ps) = (parsedOf p .«scope_start» ≡ s) × ScopesJoin (parsedOf p .«scope_end») e ps
+abbrev pub ScopesJoin : Edition → ℕ → ℕ → List (List ℕ) → Type 0
+ScopesJoin v s e [] = s ≡ e
+ScopesJoin v s e (p ∷ ps) = (parsedOf v p .«scope_start» ≡ s) × ScopesJoin v (parsedOf v p .«scope_end») e ps
 
 -- The requests that a reader gives of each packet, one packet after the other.
-abbrev pub requestsRead : List (List ℕ) → List Range
-requestsRead [] = []
-requestsRead (p ∷ ps) = requestsGiven p ++ requestsRead ps
+abbrev pub requestsRead : Edition → List (List ℕ) → List Range
+requestsRead v [] = []
+requestsRead v (p ∷ ps) = requestsGiven v p ++ requestsRead v ps

@@ -1,6 +1,7 @@
 -- One call of the sequence (document 01, "The sequence").
 use Prim.Native.Nat.{ℕ, _+_, _*_, _-_, min}
-use mathlib.Core.Bool.{Bool, _||_}
+use mathlib.Core.Path.{_≡_}
+use mathlib.Core.Bool.{Bool, false, _||_}
 use mathlib.Core.List.{List, [], _∷_, _++_}
 use lib.ListN.{length, take, drop}
 use lib.Dec.{ltb}
@@ -12,6 +13,7 @@ use Rattle.outcomes.specs.declared.Refusal.the-variants as refusal
 use Rattle.octets.specs.Flag.{largestOf}
 use Rattle.nak.specs.declared.Form.{Form}
 use Rattle.nak.specs.declared.Identity.{Identity}
+use Rattle.nak.specs.Header.{isReservedSet}
 use Rattle.nak.specs.Pdu.{perPdu, isTooSmall}
 use Rattle.nak.specs.Writer.{isBadIdentity, largestPdu}
 use Rattle.reception.specs.declared.Reception.{Reception}
@@ -48,6 +50,13 @@ isBadSize o = ltb largestPdu (o .largest) || isTooSmall (o .form) (o .identity) 
 unfoldable pub isTooLarge : Reception → List ℕ → Form → Bool
 isTooLarge rec xs g = ltb (largestOf (g .flag)) (rec .progress) || anyAbove (largestOf (g .flag)) (take (2 * rec .count) xs)
 
+-- An order that 13, 15, 14 and 7 pass for this record and list.
+pub record Allowed (rec : Reception) (xs : List ℕ) (o : Order) : Type 0 where
+  pub identity : isBadIdentity (o .identity) ≡ false
+  pub reserved : isReservedSet (o .form .edition) (o .form .flag) ≡ false
+  pub size : isBadSize o ≡ false
+  pub numbers : isTooLarge rec xs (o .form) ≡ false
+
 -- What the PDUs of this record, list and order share.
 abbrev pub asked : Reception → List ℕ → Order → Asking
 asked rec xs o = askingFor rec xs (o .form) (o .identity) (perPdu (o .form) (o .identity) (o .largest))
@@ -68,10 +77,11 @@ newCursor a o = min (length (a .entries)) (o .cursor + o .budget * a .each)
 abbrev pub reported : Asking → Order → Outcome
 reported a o = accepted (pduCount a o ∷ length (sent a o) ∷ newCursor a o ∷ [])
 
--- Checks of the order itself: 13, 14, 7, 11, 20, 6 (buffer shorter than g × P, which is the number needed).
+-- Checks of the order itself: 13, 15 (document 02, C-20), 14, 7, 11, 20, 6 (buffer shorter than g × P, which is the number needed).
 abbrev pub orderChecks : Reception → List ℕ → Order → ℕ → List Check
 orderChecks rec xs o given =
     (isBadIdentity (o .identity), refusal.BadIdentity)
+    ∷ (isReservedSet (o .form .edition) (o .form .flag), refusal.BadHeader)
     ∷ (isBadSize o, refusal.PduSize)
     ∷ (isTooLarge rec xs (o .form), refusal.LargeSegmentForNormalFileSize)
     ∷ (ltb (length (asked rec xs o .entries)) (o .cursor), refusal.BadCursor)
@@ -79,7 +89,7 @@ orderChecks rec xs o given =
     ∷ (ltb given (o .budget * o .largest), refusal.BufferSizeMissmatch (o .budget * o .largest) given)
     ∷ []
 
--- Checks: 10, 8, 12, 13, 14, 7, 11, 20, 6.
+-- Checks: 10, 8, 12, 13, 15, 14, 7, 11, 20, 6.
 abbrev pub sequenceChecks : Reception → List ℕ → Order → ℕ → List Check
 sequenceChecks rec xs o given = recordChecks rec xs ++ orderChecks rec xs o given
 

@@ -1,10 +1,10 @@
 //! A short pass: metadata, file data with holes, the end of file, and the NAK PDUs that ask for what is missing, until nothing is.
-use pusmarke::{FileFlag, Identity, NakReader, Reception, Refusal, Width};
+use pusmarke::{Edition, Identity, NakReader, Reception, Refusal, Width};
 
-/// Prints the NAK PDUs of a reception in hex, and hands back what they ask for.
+/// Prints the NAK PDUs of a reception in hex, and hands back what they ask for. The link speaks the newer edition.
 fn ask(reception: &Reception) -> Result<Vec<(u64, u64)>, Refusal> {
     let identity = Identity { entity_length: 1, number_length: 1, source: 1, number: 7, destination: 2 };
-    let mut sequence = reception.nak_sequence(identity, FileFlag::Normal, 32);
+    let mut sequence = reception.nak_sequence(identity, Edition::Newer, 32);
     let mut asked = Vec::new();
     let mut buf = [0; 32];
     loop {
@@ -15,7 +15,7 @@ fn ask(reception: &Reception) -> Result<Vec<(u64, u64)>, Refusal> {
         let pdu = &buf[..sent.octets];
         let hex: Vec<String> = pdu.iter().map(|o| format!("{o:02X}")).collect();
         println!("NAK {}", hex.join(" "));
-        asked.extend(NakReader::read(pdu)?);
+        asked.extend(NakReader::read(pdu, Edition::Newer)?);
     }
 }
 

@@ -40,6 +40,13 @@ pub struct Identity {
 
 #[repr(C)]
 #[derive(Clone, Copy, Debug)]
+pub(crate) struct Form {
+    pub older: u64,
+    pub large: u64,
+}
+
+#[repr(C)]
+#[derive(Clone, Copy, Debug)]
 pub(crate) struct Nak {
     pub refusal: u64,
     pub start: u64,
@@ -91,7 +98,7 @@ extern "C" {
     pub(crate) fn pusmarke_missing_octets(record: Record, list: *const u64, list_length: usize) -> Answer;
     pub(crate) fn pusmarke_write(
         identity: Identity,
-        large: u64,
+        form: Form,
         scope_start: u64,
         scope_end: u64,
         requests: *const u64,
@@ -99,14 +106,14 @@ extern "C" {
         buffer: *mut u8,
         buffer_length: usize,
     ) -> Answer;
-    pub(crate) fn pusmarke_read(packet: *const u8, packet_length: usize) -> Nak;
+    pub(crate) fn pusmarke_read(packet: *const u8, packet_length: usize, older: u64) -> Nak;
     pub(crate) fn pusmarke_next(packet: *const u8, packet_length: usize, at: usize) -> Step;
     pub(crate) fn pusmarke_nak_sequence(
         record: Record,
         list: *const u64,
         list_length: usize,
         identity: Identity,
-        large: u64,
+        form: Form,
         largest: usize,
         cursor: usize,
         budget: usize,

@@ -1,4 +1,5 @@
-//! Safe wrappers around Pusmarke, the proved core of a CFDP receiver (CCSDS 727.0-B-5).
+//! Safe wrappers around Pusmarke, the proved core of a CFDP receiver (CCSDS 727.0-B-5, and an older edition of it where a link speaks
+//! that: [`Edition`]).
 //!
 //! [`Store`] is the store of lost segments over a list that the caller lends, with the methods of cfdp-rs's `LostSegmentStore`.
 //! [`Reception`] keeps such a list by what comes, and says whether a range was kept. [`NakSequence`] writes the NAK PDUs that ask for
@@ -18,7 +19,7 @@ mod sequence;
 mod store;
 
 pub use ffi::Identity;
-pub use nak::{write_nak, FileFlag, NakReader};
+pub use nak::{write_nak, Edition, FileFlag, Form, NakReader};
 pub use reception::{Data, Reception};
 pub use refusal::Refusal;
 pub use sequence::{NakSequence, Sent};

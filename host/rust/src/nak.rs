@@ -4,9 +4,10 @@ use core::iter::FusedIterator;
 use crate::{ffi, Identity, Refusal};
 
 /// The large file flag: how long an offset's field is.
-#[derive(Clone, Copy, Debug, PartialEq, Eq)]
+#[derive(Clone, Copy, Debug, Default, PartialEq, Eq)]
 pub enum FileFlag {
     /// 4 octets.
+    #[default]
     Normal,
     /// 8 octets.
     Large,
@@ -21,11 +22,65 @@ impl FileFlag {
     }
 }
 
+/// Which edition of the Blue Book a link speaks. A packet of one edition is never accepted under the other: that is refusal 15.
+#[derive(Clone, Copy, Debug, Default, PartialEq, Eq)]
+pub enum Edition {
+    /// The version bits are 001.
+    #[default]
+    Newer,
+    /// The version bits are 000, and the bit of the large file flag is reserved: there is no [`FileFlag::Large`].
+    Older,
+}
+
+impl Edition {
+    fn mark(self) -> u64 {
+        match self {
+            Edition::Newer => 0,
+            Edition::Older => 1,
+        }
+    }
+}
+
+/// What a link fixes about the shape of its PDUs; by default the newer edition with offsets of 4 octets. A [`FileFlag`] alone is a form
+/// of the newer edition, an [`Edition`] alone one with the normal flag.
+///
+/// ```
+/// # use pusmarke::{Edition, FileFlag, Form};
+/// assert_eq!(Form::from(FileFlag::Large), Form { edition: Edition::Newer, file_flag: FileFlag::Large });
+/// assert_eq!(Form::from(Edition::Older), Form { edition: Edition::Older, file_flag: FileFlag::Normal });
+/// assert_eq!(Form::from(FileFlag::Normal), Form::default());
+/// ```
+#[derive(Clone, Copy, Debug, Default, PartialEq, Eq)]
+pub struct Form {
+    /// The edition.
+    pub edition: Edition,
+    /// The large file flag.
+    pub file_flag: FileFlag,
+}
+
+impl Form {
+    pub(crate) fn marks(self) -> ffi::Form {
+        ffi::Form { older: self.edition.mark(), large: self.file_flag.mark() }
+    }
+}
+
+impl From<FileFlag> for Form {
+    fn from(file_flag: FileFlag) -> Self {
+        Form { file_flag, ..Form::default() }
+    }
+}
+
+impl From<Edition> for Form {
+    fn from(edition: Edition) -> Self {
+        Form { edition, ..Form::default() }
+    }
+}
+
 /// Writes one NAK PDU into a buffer of exactly its length, and says that length. `requests` is flat, start and end by turns; (0, 0)
-/// asks for metadata, at any place, once. Refused: 10, 13, 18, 3, 2, 7, 14 and 6.
+/// asks for metadata, at any place, once. Refused: 10, 13, 15 (the older edition with the large flag), 18, 3, 2, 7, 14 and 6.
 pub fn write_nak(
     identity: Identity,
-    file_flag: FileFlag,
+    form: impl Into<Form>,
     scope: (u64, u64),
     requests: &[u64],
     buf: &mut [u8],
@@ -33,7 +88,7 @@ pub fn write_nak(
     let answer = unsafe {
         ffi::pusmarke_write(
             identity,
-            file_flag.mark(),
+            form.into().marks(),
             scope.0,
             scope.1,
             requests.as_ptr(),
@@ -55,9 +110,21 @@ pub struct NakReader<'p> {
 }
 
 impl<'p> NakReader<'p> {
-    /// Reads a packet. Refused: 16, 15, 17, 18, 3, 2 and 14.
-    pub fn read(packet: &'p [u8]) -> Result<Self, Refusal> {
-        let nak = unsafe { ffi::pusmarke_read(packet.as_ptr(), packet.len()) };
+    /// Reads a packet of that edition. Refused: 16, 15 (also where it is one of the other edition), 17, 18, 3, 2 and 14.
+    ///
+    /// ```
+    /// # use pusmarke::{write_nak, Edition, Identity, NakReader, Refusal};
+    /// # fn main() -> Result<(), Refusal> {
+    /// # let identity = Identity { entity_length: 1, number_length: 1, source: 1, number: 7, destination: 2 };
+    /// let mut buf = [0; 24];
+    /// write_nak(identity, Edition::Older, (0, 1000), &[100, 200], &mut buf)?;
+    /// assert_eq!(NakReader::read(&buf, Edition::Older)?.next(), Some((100, 200)));
+    /// assert_eq!(NakReader::read(&buf, Edition::Newer).unwrap_err(), Refusal::BadHeader);
+    /// # Ok(())
+    /// # }
+    /// ```
+    pub fn read(packet: &'p [u8], edition: Edition) -> Result<Self, Refusal> {
+        let nak = unsafe { ffi::pusmarke_read(packet.as_ptr(), packet.len(), edition.mark()) };
         match Refusal::of(nak.refusal, nak.start, nak.end) {
             None => Ok(NakReader { packet, nak, at: nak.next }),
             Some(refusal) => Err(refusal),
@@ -69,7 +136,7 @@ impl<'p> NakReader<'p> {
         self.nak.identity
     }
 
-    /// The large file flag.
+    /// The large file flag; normal in every packet of the older edition.
     pub fn file_flag(&self) -> FileFlag {
         if self.nak.large == 0 {
             FileFlag::Normal

@@ -1,5 +1,5 @@
 //! The reception of one file.
-use crate::{ffi, store, FileFlag, Identity, NakSequence, Refusal, Segments, Width};
+use crate::{ffi, store, Form, Identity, NakSequence, Refusal, Segments, Width};
 
 /// What became of the data of an accepted event.
 #[derive(Clone, Copy, Debug, PartialEq, Eq)]
@@ -120,8 +120,8 @@ impl<'a> Reception<'a> {
         Ok(answer.accepted()?.first)
     }
 
-    /// The NAK PDUs, of at most `largest` octets each, that ask for all that is missing.
-    pub fn nak_sequence(&self, identity: Identity, file_flag: FileFlag, largest: usize) -> NakSequence<'_> {
-        NakSequence::of(self.record, self.list, identity, file_flag, largest)
+    /// The NAK PDUs of that form, of at most `largest` octets each, that ask for all that is missing.
+    pub fn nak_sequence(&self, identity: Identity, form: impl Into<Form>, largest: usize) -> NakSequence<'_> {
+        NakSequence::of(self.record, self.list, identity, form.into(), largest)
     }
 }

@@ -39,7 +39,7 @@ pub enum Refusal {
     BadIdentity,
     /// 14: a PDU or the largest PDU above 4,096 octets, or the largest PDU below room for one request.
     PduSize,
-    /// 15: a fixed bit of the header is wrong.
+    /// 15: a fixed bit of the header is wrong, among them the edition's; the large flag in the older edition.
     BadHeader,
     /// 16: the packet has not the length that its header says, or its data field not a whole number of requests.
     LengthMismatch,
@@ -143,7 +143,7 @@ impl fmt::Display for Refusal {
             Refusal::ScopeBelowList => f.write_str("last segment ends above progress"),
             Refusal::BadIdentity => f.write_str("identifier does not fit its length"),
             Refusal::PduSize => f.write_str("PDU size is out of bounds"),
-            Refusal::BadHeader => f.write_str("header has a wrong fixed bit"),
+            Refusal::BadHeader => f.write_str("header has a wrong fixed bit, or a large file flag that its edition has not"),
             Refusal::LengthMismatch => f.write_str("packet length is wrong"),
             Refusal::NotNak => f.write_str("packet is no NAK PDU"),
             Refusal::ScopeReversed => f.write_str("scope start is above scope end"),

@@ -1,5 +1,5 @@
 //! The NAK sequence.
-use crate::{ffi, FileFlag, Identity, Refusal};
+use crate::{ffi, Form, Identity, Refusal};
 
 /// What a call of a sequence wrote.
 #[derive(Clone, Copy, Debug, PartialEq, Eq)]
@@ -16,18 +16,18 @@ pub struct NakSequence<'r> {
     record: ffi::Record,
     list: &'r [u64],
     identity: Identity,
-    file_flag: FileFlag,
+    form: Form,
     largest: usize,
     cursor: usize,
 }
 
 impl<'r> NakSequence<'r> {
-    pub(crate) fn of(record: ffi::Record, list: &'r [u64], identity: Identity, file_flag: FileFlag, largest: usize) -> Self {
-        NakSequence { record, list, identity, file_flag, largest, cursor: 0 }
+    pub(crate) fn of(record: ffi::Record, list: &'r [u64], identity: Identity, form: Form, largest: usize) -> Self {
+        NakSequence { record, list, identity, form, largest, cursor: 0 }
     }
 
     /// Writes the next PDUs back to back, `budget` of them or as many as are left; none where nothing is left. The buffer has at
-    /// least `budget` times `largest` octets. Refused: 13, 14, 7, 11, 20 and 6.
+    /// least `budget` times `largest` octets. Refused: 13, 15 (the older edition with the large flag), 14, 7, 11, 20 and 6.
     pub fn write(&mut self, budget: usize, buf: &mut [u8]) -> Result<Sent, Refusal> {
         let answer = unsafe {
             ffi::pusmarke_nak_sequence(
@@ -35,7 +35,7 @@ impl<'r> NakSequence<'r> {
                 self.list.as_ptr(),
                 self.list.len(),
                 self.identity,
-                self.file_flag.mark(),
+                self.form.marks(),
                 self.largest,
                 self.cursor,
                 budget,

@@ -33,6 +33,7 @@ fn from_c(declaration: &str) -> String {
         "struct pusmarke_answer" => "Answer",
         "struct pusmarke_reception" => "Record",
         "struct pusmarke_identity" => "Identity",
+        "struct pusmarke_form" => "Form",
         "struct pusmarke_nak" => "Nak",
         "struct pusmarke_step" => "Step",
         other => panic!("a type of C's that is not known here: {other}"),
@@ -110,11 +111,12 @@ fn structs() {
         ("pusmarke_answer", "Answer"),
         ("pusmarke_reception", "Record"),
         ("pusmarke_identity", "Identity"),
+        ("pusmarke_form", "Form"),
         ("pusmarke_nak", "Nak"),
         ("pusmarke_step", "Step"),
     ] {
         let fields = fields_of_c(&c, a);
-        assert!(fields.len() >= 4);
+        assert!(fields.len() >= 2);
         assert_eq!(fields, fields_of_rust(&rust, b), "{a}");
     }
 }

@@ -1,5 +1,5 @@
 //! Reception, the NAK sequence and the reader: document 01's examples, and a pass until nothing is missing.
-use pusmarke::{write_nak, Data, FileFlag, Identity, NakReader, Reception, Refusal, Width};
+use pusmarke::{write_nak, Data, Edition, FileFlag, Identity, NakReader, Reception, Refusal, Width};
 
 const IDENTITY: Identity = Identity { entity_length: 1, number_length: 1, source: 1, number: 7, destination: 2 };
 
@@ -13,7 +13,7 @@ fn example_packet() {
     let mut buf = [0; 32];
     assert_eq!(write_nak(IDENTITY, FileFlag::Normal, (0, 1000), &[0, 0, 100, 200], &mut buf), Ok(32));
     assert_eq!(buf, EXAMPLE);
-    let mut reader = NakReader::read(&EXAMPLE).unwrap();
+    let mut reader = NakReader::read(&EXAMPLE, Edition::Newer).unwrap();
     assert_eq!((reader.identity(), reader.file_flag(), reader.scope()), (IDENTITY, FileFlag::Normal, (0, 1000)));
     assert_eq!(reader.request_octets(), &EXAMPLE[16..]);
     assert_eq!((reader.next(), reader.next(), reader.next(), reader.next()), (Some((0, 0)), Some((100, 200)), None, None));
@@ -27,7 +27,7 @@ fn metadata_last() {
     let mut buf = [0; 32];
     assert_eq!(write_nak(IDENTITY, FileFlag::Normal, (0, 1000), &[100, 200, 0, 0], &mut buf), Ok(32));
     assert_eq!(buf, packet);
-    let reader = NakReader::read(&packet).unwrap();
+    let reader = NakReader::read(&packet, Edition::Newer).unwrap();
     assert_eq!((reader.request_octets(), reader.collect::<Vec<_>>()), (&packet[16..], vec![(100, 200), (0, 0)]));
     // A second one is refused, next to the first and apart, and so is another empty request.
     let mut buf = [0; 40];
@@ -38,7 +38,7 @@ fn metadata_last() {
         let mut packet = EXAMPLE[..16].to_vec();
         packet[2] += 8;
         packet.extend(requests.iter().flat_map(|n| (*n as u32).to_be_bytes()));
-        assert_eq!(NakReader::read(&packet).unwrap_err(), Refusal::EmptySegment);
+        assert_eq!(NakReader::read(&packet, Edition::Newer).unwrap_err(), Refusal::EmptySegment);
     }
 }
 
@@ -47,7 +47,7 @@ fn damaged_packets() {
     let with = |at: usize, octet: u8| {
         let mut packet = EXAMPLE;
         packet[at] = octet;
-        NakReader::read(&packet).map(|_| ()).unwrap_err()
+        NakReader::read(&packet, Edition::Newer).map(|_| ()).unwrap_err()
     };
     assert_eq!(with(0, 0x20), Refusal::BadHeader);
     assert_eq!(with(2, 0x18), Refusal::LengthMismatch);
@@ -55,7 +55,7 @@ fn damaged_packets() {
     assert_eq!(with(8, 0x01), Refusal::ScopeReversed);
     assert_eq!(with(19, 0x01), Refusal::StartLargerThanEnd(1, 0));
     assert_eq!(with(31, 0x64), Refusal::EmptySegment);
-    assert_eq!(NakReader::read(&[]).unwrap_err(), Refusal::LengthMismatch);
+    assert_eq!(NakReader::read(&[], Edition::Newer).unwrap_err(), Refusal::LengthMismatch);
 }
 
 #[test]
@@ -101,7 +101,7 @@ fn end_of_file_before_metadata() {
     // Both are asked for: the metadata and the whole file.
     let mut buf = [0; 32];
     let sent = reception.nak_sequence(IDENTITY, FileFlag::Normal, 32).write(1, &mut buf).unwrap();
-    let asked = NakReader::read(&buf[..sent.octets]).unwrap();
+    let asked = NakReader::read(&buf[..sent.octets], Edition::Newer).unwrap();
     assert_eq!((asked.scope(), asked.collect::<Vec<_>>()), ((0, 20), vec![(0, 0), (0, 20)]));
     assert_eq!((reception.metadata(), reception.size()), (Ok(()), Some(20)));
     // Nothing but an empty file without a list.
@@ -238,7 +238,7 @@ fn pass() {
         let mut rest = &buf[..sent.octets];
         while !rest.is_empty() {
             let (pdu, behind) = rest.split_at(7 + usize::from(rest[1]) * 256 + usize::from(rest[2]));
-            asked.extend(NakReader::read(pdu).unwrap());
+            asked.extend(NakReader::read(pdu, Edition::Newer).unwrap());
             rest = behind;
         }
     }

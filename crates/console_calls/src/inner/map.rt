@@ -7,6 +7,7 @@ use crate::inner::state::State;
 use answers::report::of_missing_octets;
 use console_text::inner::part;
 use console_text::inner::print;
+use console_text::inner::words::MOST_CELLS;
 use holding::held::HeldAnswer;
 use lost_segments::segment_in_store::segment_in_store;
 use reception::Reception;
@@ -14,9 +15,6 @@ use report::held::held;
 use report::missing_octets::missing_octets;
 use segment_store::Store;
 use segment_store::segment_in_store::InStoreAnswer;
-
-// A picture has at most so many cells.
-const MOST_CELLS: u64 = 200;
 
 // The smaller of two numbers.
 fn smaller(a: u64, b: u64) -> u64

@@ -8,6 +8,7 @@ use crate::inner::store::flag_of;
 use answers::PusmarkeAnswer;
 use console_text::inner::part;
 use console_text::inner::print;
+use nak::Edition;
 use nak::Form;
 use nak::Identity;
 use nak_parser::Step;
@@ -25,10 +26,11 @@ fn identity_of(values: &[u64; 8209]) -> Identity {
     }
 }
 
-// The sixth is the form of the PDUs: the mark of its flag.
-fn form_of(mark: u64) -> Form {
+// The sixth is the mark of the PDUs' flag; the rest of their form is the link's.
+fn form_of(s: State, mark: u64) -> Form {
+    let edition = state::edition(s);
     let flag = flag_of(mark);
-    Form { flag }
+    Form { edition, flag }
 }
 
 // The requests of `write` are the words behind the first nine.
@@ -42,7 +44,7 @@ fn write_requests(
     let size = part::first_octets(buf, values[8] as usize);
     let a = answers::pdu::of_write(nak::writer::write(
         identity_of(values),
-        form_of(values[5]),
+        form_of(s, values[5]),
         values[6],
         values[7],
         requests,
@@ -110,7 +112,8 @@ fn show_requests(
 }
 
 fn read_packet(s: State, packet: &[u8], out: &mut [u8; 65536]) -> State {
-    let parsed = nak_reader::read_fields(packet);
+    let edition = state::edition(s);
+    let parsed = nak_reader::read_fields(packet, edition);
     if parsed.refusal != 0 {
         let a = answers::inner::with_two(parsed.refusal, parsed.start, parsed.end);
         return refusals::show_refusal(s, a, out);
@@ -125,9 +128,10 @@ fn read_packet(s: State, packet: &[u8], out: &mut [u8; 65536]) -> State {
     at = print::number(out, at, identity.number);
     at = print::number(out, at, identity.destination);
     at = show_flag(out, at, flag);
+    at = print::text(out, at, b" plain");
     at = print::number(out, at, parsed.scope_start);
     at = print::number(out, at, parsed.scope_end);
-    let steps = steps_of(nak_parser::requests(packet), form);
+    let steps = steps_of(nak_parser::requests(packet, edition), form);
     at = show_requests(out, at, packet, parsed.next, steps);
     state::answered(s, out, at)
 }
@@ -138,25 +142,26 @@ pub fn read(s: State, buf: &[u8], n: usize, out: &mut [u8; 65536]) -> State {
 }
 
 // The length of the first PDU of these octets, by its own header; all of them where no header fits.
-fn pdu_length(octets: &[u8]) -> usize
+fn pdu_length(octets: &[u8], edition: Edition) -> usize
     ensures { λ r. ⌜ r ≤ length (now (octets .entry)) ⌝ }
 {
     let all = octets.len();
     if all < 4 {
         return all;
     }
-    let header = header_in(octets);
+    let header = header_in(octets, edition);
     let start = part::at_most(header.length, all);
     start + part::at_most(header.data_length, all - start)
 }
 
 // A line for each PDU.
 fn show_pdus(s: State, octets: &[u8], pdus: u64, out: &mut [u8; 65536]) -> State {
+    let edition = state::edition(s);
     let mut next = s;
     let mut at = 0;
     let mut left = pdus;
     while 0 < left {
-        let end = at + pdu_length(&octets[at..]);
+        let end = at + pdu_length(&octets[at..], edition);
         let word = print::text(out, next.at, b"pdu ");
         let place = print::hex(out, word, &octets[at..end]);
         next = state::answered(next, out, place);
@@ -190,7 +195,7 @@ pub fn sequence(
         rec,
         &memory[..lent],
         identity_of(values),
-        form_of(values[5]),
+        form_of(s, values[5]),
         values[6] as usize,
         values[7] as usize,
         values[8] as usize,

@@ -4,6 +4,7 @@ ghost use lib.ListN.{length};
 use console_text::inner::part;
 use console_text::inner::print;
 use lists::inner::moves::tidy;
+use nak::Edition;
 use ranges::Width;
 use reception::Reception;
 
@@ -11,6 +12,8 @@ pub struct State {
     // The record; how many numbers of the memory are lent as its list.
     pub rec: Reception,
     pub length: usize,
+    // Whether the link speaks the older edition.
+    pub older: bool,
     // Lines ended so far; octets of the present line, and whether more came than a line may have.
     pub lines: u64,
     pub filled: usize,
@@ -19,11 +22,12 @@ pub struct State {
     pub at: usize,
 }
 
-// As after `new wide 4096`.
+// As after `new wide 4096` and `link newer plain`.
 pub fn start() -> State {
     State {
         rec: Reception::fresh(Width::Wide),
         length: 8192,
+        older: false,
         lines: 0,
         filled: 0,
         overlong: false,
@@ -76,6 +80,22 @@ pub fn new(s: State, memory: &mut [u64], narrow: u64, ranges: u64, out: &mut [u8
     tidy(memory, 0, memory.len() / 2);
     let mut next = with_record(s, Reception::fresh(width_of(narrow)));
     next.length = 2 * part::at_most(ranges as usize, 4096);
+    says(next, out, b"ok")
+}
+
+// The edition of the link.
+pub fn edition(s: State) -> Edition {
+    if s.older {
+        Edition::Older
+    } else {
+        Edition::Newer
+    }
+}
+
+// link: the edition that PDUs are written in and read by, until the next `link`.
+pub fn link(s: State, older: u64, out: &mut [u8; 65536]) -> State {
+    let mut next = s;
+    next.older = older != 0;
     says(next, out, b"ok")
 }
 

@@ -2,6 +2,15 @@
 ghost use Prim.Native.Nat.{_≤_};
 ghost use lib.ListN.{length};
 
+// What the console has room for: ranges of a store, numbers of its memory, octets of its buffer, cells of a picture.
+const MOST_RANGES: u64 = 4096;
+
+const MEMORY: u64 = 8200;
+
+const BUFFER: u64 = 66000;
+
+pub const MOST_CELLS: u64 = 200;
+
 // The octets of a line from `from` up to `to`; none where no word is left.
 pub struct Word {
     pub from: usize,
@@ -138,16 +147,18 @@ fn mark(word: &[u8], first: &[u8], second: &[u8]) -> Value {
 }
 
 // What a word says where this kind is due: `r` ranges, `l` a length of the memory, `b` one of the buffer, `c` cells of a picture, `w` a width, `k` whether
-// metadata is known, `f` the large file flag, `o` the word `open`, `p` the word `pairs`, `.` nothing; any other kind is a number.
+// metadata is known, `f` the large file flag, `e` the edition, `t` the word `plain`, `o` the word `open`, `p` the word `pairs`, `.` nothing; any other kind is a number.
 fn read_word(word: &[u8], kind: u8) -> Value {
     match kind {
-        b'r' => number_to(word, 4096),
-        b'l' => number_to(word, 8200),
-        b'b' => number_to(word, 66000),
-        b'c' => number_from_one(word, 200),
+        b'r' => number_to(word, MOST_RANGES),
+        b'l' => number_to(word, MEMORY),
+        b'b' => number_to(word, BUFFER),
+        b'c' => number_from_one(word, MOST_CELLS),
         b'w' => mark(word, b"wide", b"narrow"),
         b'k' => mark(word, b"known", b"missing"),
         b'f' => mark(word, b"normal", b"large"),
+        b'e' => mark(word, b"newer", b"older"),
+        b't' => mark(word, b"plain", b"plain"),
         b'o' => mark(word, b"open", b"open"),
         b'p' => mark(word, b"pairs", b"pairs"),
         b'.' => Value::Wrong,

@@ -7,7 +7,7 @@ ghost use lib.ListN.{length};
 ghost use Rattle.ranges.specs.Store.{flat, mostNumbers};
 ghost use Rattle.octets.specs.Flag.{fieldLength};
 ghost use Rattle.nak.specs.Pdu.{headerLength, dataLength, pduLength, perPdu, isTooSmall};
-ghost use Rattle.nak.specs.Inner.{asked, GoodLengths};
+ghost use Rattle.nak.specs.Inner.{metadataFirst, GoodLengths};
 
 // H, by the identifier lengths.
 pub fn header_length(i: usize, q: usize) -> usize
@@ -55,7 +55,7 @@ pub fn per_pdu(identity: Identity, form: Form, largest: usize) -> usize
 
 // How many numbers the metadata request has, where it is asked for.
 pub fn asked_numbers(metadata: bool) -> usize
-    ensures { λ r. ⌜ r ≡ length (flat (asked metadata)) ⌝ }
+    ensures { λ r. ⌜ r ≡ length (flat (metadataFirst metadata)) ⌝ }
 {
     if metadata { 2 } else { 0 }
 }

@@ -1,5 +1,5 @@
 // The octets of a PDU, put into a buffer.
-use crate::FIXED_BITS;
+use crate::Edition;
 use crate::Form;
 use crate::Identity;
 use crate::NAK_CODE;
@@ -15,14 +15,24 @@ ghost use lib.ListN.{length};
 ghost use Rattle.ranges.specs.Range.{range};
 ghost use Rattle.ranges.specs.Store.{flat};
 ghost use Rattle.octets.specs.Octets.{fields, withOctets};
-ghost use Rattle.nak.specs.Header.{flagBit};
+ghost use Rattle.nak.specs.Header.{fixed0, flagBit, octet0};
 ghost use Rattle.nak.specs.Pdu.{saying, headerOctets, identityOctets, dataOctets, dataLength, pdu};
-ghost use Rattle.nak.specs.Inner.{asked, entries, GoodLengths};
+ghost use Rattle.nak.specs.Inner.{metadataFirst, entries, GoodLengths};
 
 fn wide(x: usize) -> u64
     ensures { λ r. ⌜ r ≡ x ⌝ }
 {
     x as u64
+}
+
+// Octet 0 but for its lowest bit.
+pub fn fixed_bits(edition: Edition) -> u64
+    ensures { λ r. ⌜ r ≡ fixed0 edition ⌝ }
+{
+    match edition {
+        Edition::Older => 8,
+        Edition::Newer => 40,
+    }
 }
 
 fn flag_bit(flag: LargeFileFlag) -> u64
@@ -34,13 +44,20 @@ fn flag_bit(flag: LargeFileFlag) -> u64
     }
 }
 
+fn octet_0(form: Form) -> u64
+    ensures { λ r. ⌜ r ≡ octet0 form ⌝ }
+{
+    let edition = form.edition;
+    let flag = form.flag;
+    fixed_bits(edition) + flag_bit(flag)
+}
+
 // The header's first four octets.
 fn put_header(buf: &mut [u8], at: usize, form: Form, i: usize, q: usize, len: usize)
     requires { ⌜ (1 ≤ i) × (i ≤ 8) × (1 ≤ q) × (q ≤ 8) × (at + 4 ≤ length (now buf)) ⌝ }
     ensures { λ _. ⌜ now (buf .exit) ≡ withOctets (now (buf .entry)) at (headerOctets form i q len) ⌝ }
 {
-    let flag = form.flag;
-    put(buf, at, 1, FIXED_BITS as u64 + flag_bit(flag));
+    put(buf, at, 1, octet_0(form));
     put(buf, at + 1, 2, wide(len));
     put(buf, at + 3, 1, wide((i - 1) * 16 + (q - 1)));
 }
@@ -59,9 +76,9 @@ fn put_identity(buf: &mut [u8], at: usize, identity: Identity)
 
 // The metadata request, where it is asked for; answers the place behind it.
 fn put_metadata(buf: &mut [u8], at: usize, f: usize, metadata: bool) -> usize
-    requires { ⌜ at + length (fields f (flat (asked metadata))) ≤ length (now buf) ⌝ }
-    ensures { λ r. ⌜ (r ≡ at + length (fields f (flat (asked metadata))))
-        × (now (buf .exit) ≡ withOctets (now (buf .entry)) at (fields f (flat (asked metadata)))) ⌝ }
+    requires { ⌜ at + length (fields f (flat (metadataFirst metadata))) ≤ length (now buf) ⌝ }
+    ensures { λ r. ⌜ (r ≡ at + length (fields f (flat (metadataFirst metadata))))
+        × (now (buf .exit) ≡ withOctets (now (buf .entry)) at (fields f (flat (metadataFirst metadata)))) ⌝ }
 {
     if !metadata {
         return at;
@@ -83,7 +100,7 @@ fn put_data(
     first: usize,
     count: usize,
 )
-    requires { ⌜ (at + dataLength f (length (flat (asked metadata)) + 2 * count) ≤ length (now buf))
+    requires { ⌜ (at + dataLength f (length (flat (metadataFirst metadata)) + 2 * count) ≤ length (now buf))
         × (2 * first + 2 * count ≤ length (now requests)) ⌝ }
     ensures { λ _. ⌜ now (buf .exit) ≡ withOctets (now (buf .entry)) at (dataOctets f (range start end) (entries metadata (now (requests .entry)) first count)) ⌝ }
 {

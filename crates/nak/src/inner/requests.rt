@@ -1,6 +1,7 @@
 // The checks of a list of requests, and of its numbers.
 use outcomes::Refusal;
 use outcomes::Verdict;
+use ranges::MOST_NUMBERS;
 use searches::inner::checks::any_above;
 ghost use mathlib.Core.Path.{_≡_};
 ghost use mathlib.Core.Bool.{_&&_, not};
@@ -13,9 +14,6 @@ ghost use Rattle.ranges.specs.Store.{pairs, anyAbove};
 ghost use Rattle.nak.specs.Request.{isMetadata, requestsChecks};
 ghost use Rattle.nak.specs.Writer.{isBadList};
 
-// A list of requests has at most 4,096 pairs.
-const LARGEST_LIST: usize = 8192;
-
 // 10.
 pub fn bad_list(requests: &[u64]) -> bool
     ensures { λ r. ⌜ r ≡ isBadList (now (requests .entry)) ⌝ }
@@ -23,7 +21,7 @@ pub fn bad_list(requests: &[u64]) -> bool
     if requests.len() % 2 == 1 {
         true
     } else {
-        LARGEST_LIST < requests.len()
+        MOST_NUMBERS < requests.len()
     }
 }
 

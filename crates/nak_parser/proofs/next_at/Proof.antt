@@ -4,9 +4,8 @@ use Prim.Native.Nat.{ℕ, _≤_}
 use mathlib.Core.Path.{_≡_, refl, ap, _∙_}
 use mathlib.Core.List.{List}
 use Rattle.octets.specs.Flag.{fieldLength}
-use Rattle.nak.specs.declared.Form.{Form}
-use Rattle.nak.specs.Header.{formOf}
-use Rattle.nak_parser.specs.Parser.{packetForm, fieldLengthIn}
+use Rattle.nak.specs.Header.{flagOf}
+use Rattle.nak_parser.specs.Parser.{packetFlag, fieldLengthIn}
 use Rattle.nak_parser.specs.Step.{stepOutcome, placeAfter}
 use Rattle.nak_parser.proofs.Reading.{field-low, field-high}
 use Rattle.nak_parser.proofs.Stepping.{at-end, not-at-end}
@@ -22,8 +21,8 @@ abbrev startF : tie.After-field-length → tie.Start
 startF c = c .before .before .before .before .before .before
 
 f-is : (c : tie.After-field-length) → c .field-length .result ≡ fieldLengthIn (p (startF c))
-unfolding fieldLengthIn packetForm
-f-is c = c .field-length .ensures ∙ ap (λ (g : Form). fieldLength (g .flag)) (c .before .form-of .ensures ∙ ap formOf (c .before .before .wide .ensures))
+unfolding fieldLengthIn packetFlag
+f-is c = c .field-length .ensures ∙ ap fieldLength (c .before .flag-of .ensures ∙ ap flagOf (c .before .before .wide .ensures))
 
 small : (c : tie.After-field-length) → (4 ≤ c .field-length .result) × (c .field-length .result ≤ 8)
 small c = let e = f-is c in (omega (arith, field-low (p (startF c))), omega (arith, field-high (p (startF c))))
@@ -40,8 +39,8 @@ shared-slice-read-wide c = search needs
 wide-requires : tie.Need-wide-requires
 wide-requires c κs = search needs
 
-form-of-requires : tie.Need-form-of-requires
-form-of-requires c κs = search needs
+flag-of-requires : tie.Need-flag-of-requires
+flag-of-requires c κs = search needs
 
 field-length-requires : tie.Need-field-length-requires
 field-length-requires c κs = search needs
@@ -88,7 +87,7 @@ next-at-spec =
     returns
     shared-slice-read-wide
     wide-requires
-    form-of-requires
+    flag-of-requires
     field-length-requires
     sub-if2
     mul-if2

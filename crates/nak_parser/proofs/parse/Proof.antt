@@ -13,6 +13,7 @@ use Rattle.outcomes.specs.declared.Refusal.{Refusal}
 use Rattle.outcomes.specs.declared.Refusal.the-variants as refusal
 use Rattle.outcomes.proofs.FirstOf.{first-refused, none-of}
 use Rattle.octets.specs.Flag.{fieldLength}
+use Rattle.nak.specs.declared.Edition.{Edition}
 use Rattle.nak.specs.Writer.{largestPdu}
 use Rattle.nak.specs.Request.{requestsChecks}
 use Rattle.nak_parser.specs.declared.inner.Header.{Header}
@@ -28,6 +29,10 @@ use Rattle.nak_parser.proofs.parse.Tie as tie
 abbrev p : tie.Start → List ℕ
 p s = s .args .packet .now
 
+-- and the link's edition
+abbrev v : tie.Start → Edition
+v s = s .args .edition
+
 -- the header, and the shape
 abbrev startH : tie.After-header-in → tie.Start
 startH c = c .before .before .before
@@ -35,7 +40,7 @@ startH c = c .before .before .before
 abbrev startS : tie.After-shape → tie.Start
 startS c = startH (c .before)
 
-verdict : (c : tie.After-shape) → verdictCase (c .shape .result) ≡ firstOf (shapeChecks (p (startS c))) (accepted [])
+verdict : (c : tie.After-shape) → verdictCase (c .shape .result) ≡ firstOf (shapeChecks (v (startS c)) (p (startS c))) (accepted [])
 verdict c = c .shape .ensures
 
 -- the shape is right
@@ -45,8 +50,8 @@ startE c = startS (c .before .before)
 abbrev headerE : tie.After-enum-told → Header
 headerE c = c .before .before .before .header-in .result
 
-shape-right : (c : tie.After-enum-told) → Shape (p (startE c))
-shape-right c = shape-of (p (startE c)) (none-of (shapeChecks (p (startE c))) (ap verdictCase (sym (c .enum-told .given .1)) ∙ verdict (c .before .before)))
+shape-right : (c : tie.After-enum-told) → Shape (v (startE c)) (p (startE c))
+shape-right c = shape-of (v (startE c)) (p (startE c)) (none-of (shapeChecks (v (startE c)) (p (startE c))) (ap verdictCase (sym (c .enum-told .given .1)) ∙ verdict (c .before .before)))
 
 h-is : (c : tie.After-enum-told) → headerE c .length ≡ headerLengthIn (p (startE c))
 h-is c = ap (λ (h : Header). h .length) (c .before .before .before .header-in .ensures)
@@ -107,7 +112,7 @@ asked c =
     let g = fromG (fromC c .before) in
     c .check-packet .ensures ∙ ap (λ (rs : List Range). firstOf (requestsChecks rs) (accepted [])) (is-requests (p (startC c)) (place g) (f-is g))
 
-abbrev shapeC : (c : tie.After-check-packet) → Shape (p (startC c))
+abbrev shapeC : (c : tie.After-check-packet) → Shape (v (startC c)) (p (startC c))
 shapeC c = shape-right (fromF (fromG (fromC c .before)))
 
 -- they are right
@@ -117,16 +122,16 @@ fromR c = c .before .before
 requests : (c : tie.After-enum-told2) → NoneOf (requestsChecks (packetRequests (p (startC (fromR c)))))
 requests c = none-of (requestsChecks (packetRequests (p (startC (fromR c))))) (ap verdictCase (sym (c .enum-told2 .given .1)) ∙ asked (fromR c))
 
-then-size : (c : tie.After-enum-told2) → let q = p (startC (fromR c)) in readOutcome q ≡ firstOf (sizeCheck q) (accepted [])
-then-size c = from-size (p (startC (fromR c))) (shapeC (fromR c)) (ordered (fromC (fromR c))) (requests c)
+then-size : (c : tie.After-enum-told2) → let s = startC (fromR c) in readOutcome (v s) (p s) ≡ firstOf (sizeCheck (p s)) (accepted [])
+then-size c = from-size (v (startC (fromR c))) (p (startC (fromR c))) (shapeC (fromR c)) (ordered (fromC (fromR c))) (requests c)
 
 refused-requires : tie.Need-refused-requires
 refused-requires c κs = search needs
 
 returns : tie.Need-returns
 returns c =
-    let q = p (c .before .before .before) in
-    c .refused .ensures ∙ parsed-by q refusal.LengthMismatch (short q (c .before .if1 .taken))
+    let s = c .before .before .before in
+    c .refused .ensures ∙ parsed-by (v s) (p s) refusal.LengthMismatch (short (v s) (p s) (c .before .if1 .taken))
 
 header-in-requires : tie.Need-header-in-requires
 header-in-requires c κs = search needs
@@ -143,10 +148,11 @@ refused-requires-2 c κs = search needs
 returns-2 : tie.Need-returns-2
 returns-2 c =
     let b = c .before .before .before .before in
+    let e = v (startS b) in
     let q = p (startS b) in
     let r : Refusal = c .before .before .shape2 .given .0 .0 in
-    let e = first-refused (shapeChecks q) r (firstOf (scopeChecks q) (accepted [])) (ap verdictCase (sym (c .before .before .shape2 .given .1)) ∙ verdict b) in
-    c .refused2 .ensures ∙ parsed-by q r (e ∙ sym (in-order q))
+    let f = first-refused (shapeChecks e q) r (firstOf (scopeChecks q) (accepted [])) (ap verdictCase (sym (c .before .before .shape2 .given .1)) ∙ verdict b) in
+    c .refused2 .ensures ∙ parsed-by e q r (f ∙ sym (in-order e q))
 
 enum-told : tie.Need-enum-told
 enum-told c = search needs
@@ -172,9 +178,10 @@ refused-requires-3 c κs = search needs
 returns-3 : tie.Need-returns-3
 returns-3 c =
     let g = c .before .before in
+    let e = v (startF (fromG g)) in
     let q = p (startF (fromG g)) in
     let reversed = lt-ltb (scopeIn q .end) (scopeIn q .start) (rw (← scope g) (c .before .if2 .taken)) in
-    c .refused3 .ensures ∙ parsed-by q refusal.ScopeReversed (rw (from-scope q (shape-right (fromF (fromG g))), reversed))
+    c .refused3 .ensures ∙ parsed-by e q refusal.ScopeReversed (rw (from-scope e q (shape-right (fromF (fromG g))), reversed))
 
 mul-from : tie.Need-mul-from
 mul-from c = omega (arith, room (fromG (c .before)))
@@ -207,10 +214,11 @@ refused-requires-4 c κs = search needs
 returns-4 : tie.Need-returns-4
 returns-4 c =
     let b = c .before .before .before .before in
+    let v′ = v (startC b) in
     let q = p (startC b) in
     let r : Refusal = c .before .before .found .given .0 .0 in
     let e = first-refused (requestsChecks (packetRequests q)) r (firstOf (sizeCheck q) (accepted [])) (ap verdictCase (sym (c .before .before .found .given .1)) ∙ asked b) in
-    c .refused4 .ensures ∙ parsed-by q r (e ∙ sym (from-requests q (shapeC b) (ordered (fromC b))))
+    c .refused4 .ensures ∙ parsed-by v′ q r (e ∙ sym (from-requests v′ q (shapeC b) (ordered (fromC b))))
 
 enum-told-2 : tie.Need-enum-told-2
 enum-told-2 c = search needs
@@ -222,13 +230,14 @@ returns-5 : tie.Need-returns-5
 returns-5 c =
     let d = c .before .before in
     let q = p (startC (fromR d)) in
-    c .refused5 .ensures ∙ parsed-by q refusal.PduSize (rw (then-size d, lt-ltb largestPdu (length q) (c .before .if3 .taken)))
+    c .refused5 .ensures ∙ parsed-by (v (startC (fromR d))) q refusal.PduSize (rw (then-size d, lt-ltb largestPdu (length q) (c .before .if3 .taken)))
 
 identity-in-requires : tie.Need-identity-in-requires
 identity-in-requires c κs =
     let b = fromR (c .before) in
     let g = fromG (fromC b .before) in
-    (omega (arith, shapeC b .total), fromF g .before .before .before .header-in .ensures)
+    let h = fromF g .before .before .before .header-in .ensures in
+    (omega (arith, shapeC b .total), ap (λ (x : Header). x .«entity_length») h, ap (λ (x : Header). x .«number_length») h)
 
 returns-6 : tie.Need-returns-6
 returns-6 c =
@@ -236,9 +245,9 @@ returns-6 c =
     let b = fromR d in
     let q = p (startC b) in
     let g = fromG (fromC b .before) in
-    let e : readOutcome q ≡ accepted [] = rw (then-size d, le-ltb largestPdu (length q) (omega (arith, c .before .if3 .left))) in
+    let e : readOutcome (v (startC b)) q ≡ accepted [] = rw (then-size d, le-ltb largestPdu (length q) (omega (arith, c .before .if3 .left))) in
     let form = ap (λ (h : Header). h .form) (fromF g .before .before .before .header-in .ensures) in
-    is-parsed q (c .identity-in .ensures) form (scope (fromC b .before)) (place g) ∙ sym (parsed-accepted q e)
+    is-parsed (v (startC b)) q (c .identity-in .ensures) form (scope (fromC b .before)) (place g) ∙ sym (parsed-accepted (v (startC b)) q e)
 
 pub parse-spec : {M : Type 1} → statement M
 parse-spec =

@@ -12,13 +12,13 @@ parse-requires c κs = search needs
 part-requires : tie.Need-part-requires
 part-requires c κs =
     let p = c .before .before .args .packet .now in
-    let q = part-of p in
+    let q = part-of (c .before .before .args .edition) p in
     rw (c .parse .ensures) (q .ordered, q .inside)
 
 returns : tie.Need-returns
 returns c =
     let p = c .before .before .before .args .packet in
-    let q = part-of (p .now) in
+    let q = part-of (c .before .before .before .args .edition) (p .now) in
     let e = c .before .parse .ensures in
     ((rw e at (c .part .ensures .0)) ∙ q .octets, (rw e at (c .part .ensures .1)) ∙ ap (λ (n : ℕ). (p .ptr .0, n + p .ptr .1)) (q .from))
 

@@ -12,6 +12,7 @@ use Rattle.outcomes.specs.Outcome.{accepted}
 use Rattle.outcomes.specs.Checks.{Check, verdictCase, firstOf}
 use Rattle.outcomes.specs.declared.Refusal.{Refusal}
 use Rattle.outcomes.proofs.FirstOf.{none-of}
+use Rattle.nak.specs.Header.{isReservedSet}
 use Rattle.nak.specs.Inner.{GoodLengths}
 use Rattle.nak.specs.Writer.{isBadIdentity}
 use Rattle.nak.proofs.Checks.{good-lengths}
@@ -67,27 +68,34 @@ identity c = sym (c .before .bad-identity .ensures) ∙ c .if1 .left
 lengths : (c : tie.Else1) → GoodLengths (ord (fromP (from1 c)) .identity)
 lengths c = good-lengths (ord (fromP (from1 c)) .identity) (identity c)
 
+-- 15 is passed
+abbrev fromV : tie.Else2 → tie.Else1
+fromV c = c .before .before
+
+reserved : (c : tie.Else2) → let g = ord (fromP (from1 (fromV c))) .form in isReservedSet (g .edition) (g .flag) ≡ false
+reserved c = sym (c .before .reserved-set .ensures) ∙ c .if2 .left
+
 -- 14
-abbrev fromS : tie.After-bad-size → tie.Else1
+abbrev fromS : tie.After-bad-size → tie.Else2
 fromS c = c .before
 
-size : (c : tie.After-bad-size) → c .bad-size .result ≡ isBadSize (ord (fromP (from1 (fromS c))))
-size c = c .bad-size .ensures ∙ size-of (ord (fromP (from1 (fromS c))))
+size : (c : tie.After-bad-size) → c .bad-size .result ≡ isBadSize (ord (fromP (from1 (fromV (fromS c)))))
+size c = c .bad-size .ensures ∙ size-of (ord (fromP (from1 (fromV (fromS c)))))
 
-abbrev from2 : tie.Else2 → tie.After-enum-told
-from2 c = from1 (fromS (c .before))
+abbrev from2 : tie.Else3 → tie.After-enum-told
+from2 c = from1 (fromV (fromS (c .before)))
 
-sized : (c : tie.Else2) → isBadSize (ord (fromP (from2 c))) ≡ false
-sized c = sym (size (c .before)) ∙ c .if2 .left
+sized : (c : tie.Else3) → isBadSize (ord (fromP (from2 c))) ≡ false
+sized c = sym (size (c .before)) ∙ c .if3 .left
 
 -- 7
-abbrev from3 : tie.Else3 → tie.Else2
+abbrev from3 : tie.Else4 → tie.Else3
 from3 c = c .before .before .before
 
-large : (c : tie.Else3) → let b = fromP (from2 (from3 c)) in isTooLarge (rec b) (xs b) (ord b .form) ≡ false
+large : (c : tie.Else4) → let b = fromP (from2 (from3 c)) in isTooLarge (rec b) (xs b) (ord b .form) ≡ false
 large c =
     let b = fromP (from2 (from3 c)) in
-    large-fine (rec b) (xs b) (ord b .form) (passed (from2 (from3 c))) (rw (c .before .before .largest .ensures) at (c .if3 .left))
+    large-fine (rec b) (xs b) (ord b .form) (passed (from2 (from3 c))) (rw (c .before .before .largest .ensures) at (c .if4 .left))
 
 -- 11
 abbrev fromE : tie.After-entry-count → tie.After-enum-told
@@ -96,18 +104,18 @@ fromE c = from2 (from3 (c .before))
 entries : (c : tie.After-entry-count) → let b = fromP (fromE c) in c .entry-count .result ≡ length (asked (rec b) (xs b) (ord b) .entries)
 entries c = let b = fromP (fromE c) in c .entry-count .ensures ∙ sym (length-entries (rec b) (xs b) (holds (fromE c) .store .room))
 
-abbrev from4 : tie.Else4 → tie.Else3
+abbrev from4 : tie.Else5 → tie.Else4
 from4 c = c .before .before
 
-cursor : (c : tie.Else4) → let b = fromP (from2 (from3 (from4 c))) in ord b .cursor ≤ length (asked (rec b) (xs b) (ord b) .entries)
-cursor c = omega (arith, entries (c .before), c .if4 .left)
+cursor : (c : tie.Else5) → let b = fromP (from2 (from3 (from4 c))) in ord b .cursor ≤ length (asked (rec b) (xs b) (ord b) .entries)
+cursor c = omega (arith, entries (c .before), c .if5 .left)
 
 -- 20
-abbrev from5 : tie.Else5 → tie.After-record-checks
+abbrev from5 : tie.Else6 → tie.After-record-checks
 from5 c = fromP (from2 (from3 (from4 (c .before))))
 
-budget : (c : tie.Else5) → ord (from5 c) .budget ≤ largestBudget
-budget c = c .if5 .left
+budget : (c : tie.Else6) → ord (from5 c) .budget ≤ largestBudget
+budget c = c .if6 .left
 
 record-checks-requires : tie.Need-record-checks-requires
 record-checks-requires c κs = search needs
@@ -130,38 +138,44 @@ bad-identity-requires c κs = search needs
 returns-2 : tie.Need-returns-2
 returns-2 c = rw (← behind (c .before .before)) (rw (sym (c .before .bad-identity .ensures) ∙ c .if1 .taken))
 
-bad-size-requires : tie.Need-bad-size-requires
-bad-size-requires c κs = lengths c
+reserved-set-requires : tie.Need-reserved-set-requires
+reserved-set-requires c κs = search needs
 
 returns-3 : tie.Need-returns-3
-returns-3 c = let p = fromS (c .before) in rw (← behind (from1 p)) (rw (identity p, sym (size (c .before)) ∙ c .if2 .taken))
+returns-3 c = let p = c .before .before in rw (← behind (from1 p)) (rw (identity p, sym (c .before .reserved-set .ensures) ∙ c .if2 .taken))
+
+bad-size-requires : tie.Need-bad-size-requires
+bad-size-requires c κs = lengths (fromV c)
+
+returns-4 : tie.Need-returns-4
+returns-4 c = let p = fromS (c .before) in rw (← behind (from1 (fromV p))) (rw (identity (fromV p), reserved p, sym (size (c .before)) ∙ c .if3 .taken))
 
 largest-requires : tie.Need-largest-requires
 largest-requires c κs = search needs
 
-returns-4 : tie.Need-returns-4
-returns-4 c =
+returns-5 : tie.Need-returns-5
+returns-5 c =
     let p = c .before .before .before in
     let b = fromP (from2 p) in
-    let t = large-progress (rec b) (xs b) (ord b .form) (rw (c .before .before .largest .ensures) at (c .if3 .taken)) in
-    rw (← behind (from2 p)) (rw (identity (fromS (p .before)), sized p, t))
+    let t = large-progress (rec b) (xs b) (ord b .form) (rw (c .before .before .largest .ensures) at (c .if4 .taken)) in
+    rw (← behind (from2 p)) (rw (identity (fromV (fromS (p .before))), reserved (fromS (p .before)), sized p, t))
 
 entry-count-requires : tie.Need-entry-count-requires
 entry-count-requires c κs = let s = holds (from2 (from3 c)) .store in omega (arith, s .room, s .small)
 
-returns-5 : tie.Need-returns-5
-returns-5 c =
-    let e = c .before in
-    let p = from3 (e .before) in
-    let b = fromP (from2 p) in
-    let d : length (asked (rec b) (xs b) (ord b) .entries) < ord b .cursor = omega (arith, entries e, c .if4 .taken) in
-    rw (← behind (from2 p)) (rw (identity (fromS (p .before)), sized p, large (e .before), lt-ltb _ _ d))
-
 returns-6 : tie.Need-returns-6
 returns-6 c =
     let e = c .before in
+    let p = from3 (e .before) in
+    let b = fromP (from2 p) in
+    let d : length (asked (rec b) (xs b) (ord b) .entries) < ord b .cursor = omega (arith, entries e, c .if5 .taken) in
+    rw (← behind (from2 p)) (rw (identity (fromV (fromS (p .before))), reserved (fromS (p .before)), sized p, large (e .before), lt-ltb _ _ d))
+
+returns-7 : tie.Need-returns-7
+returns-7 c =
+    let e = c .before in
     let p = from3 (from4 e) in
-    rw (← behind (from2 p)) (rw (identity (fromS (p .before)), sized p, large (from4 e), le-ltb _ _ (cursor e), lt-ltb largestBudget _ (c .if5 .taken)))
+    rw (← behind (from2 p)) (rw (identity (fromV (fromS (p .before))), reserved (fromS (p .before)), sized p, large (from4 e), le-ltb _ _ (cursor e), lt-ltb largestBudget _ (c .if6 .taken)))
 
 mul-needed : tie.Need-mul-needed
 mul-needed c =
@@ -169,19 +183,19 @@ mul-needed c =
     let m = mul-le-mul-right {m = ord b .budget} {n = largestBudget} (ord b .largest) (budget c) in
     omega (arith, m, small-size (ord b) (sized (from3 (from4 (c .before)))))
 
-returns-7 : tie.Need-returns-7
-returns-7 c =
-    let e = c .before .before in
-    let p = from3 (from4 e) in
-    rw (← behind (from2 p))
-    (rw (identity (fromS (p .before)), sized p, large (from4 e), le-ltb _ _ (cursor e), le-ltb _ _ (budget (c .before)), lt-ltb _ _ (c .if6 .taken)))
-
 returns-8 : tie.Need-returns-8
 returns-8 c =
     let e = c .before .before in
     let p = from3 (from4 e) in
     rw (← behind (from2 p))
-    (rw (identity (fromS (p .before)), sized p, large (from4 e), le-ltb _ _ (cursor e), le-ltb _ _ (budget (c .before)), le-ltb _ _ (c .if6 .left)))
+    (rw (identity (fromV (fromS (p .before))), reserved (fromS (p .before)), sized p, large (from4 e), le-ltb _ _ (cursor e), le-ltb _ _ (budget (c .before)), lt-ltb _ _ (c .if7 .taken)))
+
+returns-9 : tie.Need-returns-9
+returns-9 c =
+    let e = c .before .before in
+    let p = from3 (from4 e) in
+    rw (← behind (from2 p))
+    (rw (identity (fromV (fromS (p .before))), reserved (fromS (p .before)), sized p, large (from4 e), le-ltb _ _ (cursor e), le-ltb _ _ (budget (c .before)), le-ltb _ _ (c .if7 .left)))
 
 pub sequence-checks-spec : {M : Type 1} → statement M
 sequence-checks-spec =
@@ -193,13 +207,15 @@ sequence-checks-spec =
     enum-told
     bad-identity-requires
     returns-2
-    bad-size-requires
+    reserved-set-requires
     returns-3
-    largest-requires
+    bad-size-requires
     returns-4
-    entry-count-requires
+    largest-requires
     returns-5
+    entry-count-requires
     returns-6
-    mul-needed
     returns-7
-    returns-8)
+    mul-needed
+    returns-8
+    returns-9)

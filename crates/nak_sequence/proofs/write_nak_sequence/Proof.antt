@@ -65,7 +65,7 @@ holds : (c : tie.After-enum-told) → Sound (xs (fromP c)) (rec (fromP c))
 holds c = sound (xs (fromP c)) (rec (fromP c)) (checks c .passed)
 
 lengths : (c : tie.After-enum-told) → GoodLengths (ord (fromP c) .identity)
-lengths c = good-lengths (ord (fromP c) .identity) (checks c .identity)
+lengths c = good-lengths (ord (fromP c) .identity) (checks c .allowed .identity)
 
 listed : (c : tie.After-enum-told) → Listed (rec (fromP c)) (xs (fromP c))
 listed c = let s = holds c .store in (s .room, omega (arith, s .room, s .small))
@@ -78,12 +78,12 @@ each : (c : tie.After-per-pdu) → c .per-pdu .result ≡ share (fromP (fromK c)
 each c = c .per-pdu .ensures
 
 low : (c : tie.After-per-pdu) → 1 ≤ c .per-pdu .result
-low c = omega (arith, each c, each-low (ord (fromP (fromK c))) (checks (fromK c) .size))
+low c = omega (arith, each c, each-low (ord (fromP (fromK c))) (checks (fromK c) .allowed .size))
 
 high : (c : tie.After-per-pdu) → c .per-pdu .result ≤ largestPdu
 high c =
     let o = ord (fromP (fromK c)) in
-    omega (arith, each c, per-high (o .form) (o .identity) (o .largest), small-size o (checks (fromK c) .size))
+    omega (arith, each c, per-high (o .form) (o .identity) (o .largest), small-size o (checks (fromK c) .allowed .size))
 
 -- E
 abbrev fromE : tie.After-entry-count → tie.After-enum-told
@@ -115,7 +115,7 @@ room : (c : tie.After-smaller) → length (octetsOf (naks (asking c) (ord (fromP
 room c =
     let o = ord (fromP (fromN c)) in
     let k = checks (fromN c) in
-    let y = octets-short (asking c) (o .largest) (λ f. pdu-short (asking c) (o .largest) f (each (c .before .before)) (some-each o (k .size))) (o .cursor) (c .smaller .result) in
+    let y = octets-short (asking c) (o .largest) (λ f. pdu-short (asking c) (o .largest) f (each (c .before .before)) (some-each o (k .allowed .size))) (o .cursor) (c .smaller .result) in
     let m = mul-le-mul-right {m = c .smaller .result} {n = o .budget} (o .largest) (omega (arith, pdus c)) in
     omega (arith, y, m, k .room)
 
@@ -153,7 +153,7 @@ enum-told : tie.Need-enum-told
 enum-told c = search needs
 
 per-pdu-requires : tie.Need-per-pdu-requires
-per-pdu-requires c κs = (lengths c, some-each (ord (fromP c)) (checks c .size))
+per-pdu-requires c κs = (lengths c, some-each (ord (fromP c)) (checks c .allowed .size))
 
 entry-count-requires : tie.Need-entry-count-requires
 entry-count-requires c κs = listed (fromK c) .1

@@ -9,10 +9,8 @@ ghost use Rattle.ranges.specs.Store.{anyAbove, isBadStore, counted};
 ghost use Rattle.ranges.specs.Inner.Checks.{bound, isBadShape};
 use lists::inner::pairs::end_at;
 use lists::inner::pairs::start_at;
+use ranges::MOST_NUMBERS;
 use ranges::WIDE_LIMIT;
-
-// A store holds at most 4,096 pairs, so this many numbers.
-const MOST_NUMBERS: usize = 8192;
 
 fn find_above(list: &[u64], end: usize, top: u64) -> bool
     requires { ⌜ end ≤ length (now list) ⌝ }

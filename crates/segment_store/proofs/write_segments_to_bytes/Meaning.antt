@@ -24,7 +24,7 @@ use Rattle.octets.specs.Octets.{field, fields, number}
 use Rattle.octets.proofs.Fields.{length-field, got-put}
 use Rattle.octets.proofs.Largest.{largest-fits}
 use Rattle.segment_store.specs.declared.Store.{Store}
-use Rattle.segment_store.specs.WriteSegmentsToBytes.{writeLength, writeChecks, writeOutcome, writeBuffer}
+use Rattle.segment_store.specs.WriteSegmentsToBytes.{writeLength, toBytesChecks, toBytesOutcome, toBytesBuffer}
 use Rattle.segment_store.proofs.write_segments_to_bytes.Sizes.{length-octets}
 
 pub octets-determine : (flag : LargeFileFlag) (xs ys : List ℕ) → length xs ≡ length ys → anyAbove (largestOf flag) xs ≡ false → anyAbove (largestOf flag) ys ≡ false
@@ -43,7 +43,7 @@ octets-determine flag (x ∷ xs) (y ∷ ys) l u v e =
 
 module _ (xs : List ℕ) (st : Store) (flag : LargeFileFlag) (buf : List ℕ) where
   -- accepted exactly if the store is not bad, the buffer has the length count × 2F and every number fits; that length is answered
-  pub write-accepted : (m : ℕ) → (writeOutcome xs st flag buf ≡ accepted (m ∷ []))
+  pub write-accepted : (m : ℕ) → (toBytesOutcome xs st flag buf ≡ accepted (m ∷ []))
       ↔ ((isBadStore xs (st .count) (limitOf (st .width)) ≡ false)
       × (length buf ≡ writeLength st flag) × (anyAbove (largestOf flag) (take (2 * st .count) xs) ≡ false) × (m ≡ writeLength st flag))
   write-accepted m = (to, from)
@@ -51,26 +51,26 @@ module _ (xs : List ℕ) (st : Store) (flag : LargeFileFlag) (buf : List ℕ) wh
       done : Outcome
       done = accepted (writeLength st flag ∷ [])
 
-      to : writeOutcome xs st flag buf ≡ accepted (m ∷ [])
+      to : toBytesOutcome xs st flag buf ≡ accepted (m ∷ [])
           → (isBadStore xs (st .count) (limitOf (st .width)) ≡ false)
           × (length buf ≡ writeLength st flag) × (anyAbove (largestOf flag) (take (2 * st .count) xs) ≡ false) × (m ≡ writeLength st flag)
       to h =
-          let n = first-accepted (writeChecks xs st flag (length buf)) done (ap (λ (o : Outcome). eqb (o .number) 0) h) .0 in
-          let e = sym h ∙ first-none (writeChecks xs st flag (length buf)) done n in
+          let n = first-accepted (toBytesChecks xs st flag (length buf)) done (ap (λ (o : Outcome). eqb (o .number) 0) h) .0 in
+          let e = sym h ∙ first-none (toBytesChecks xs st flag (length buf)) done n in
           (n .0, eqb-true _ _ (not-false _ (n .1 .0)), n .1 .1 .0, ap (λ (o : Outcome). getD (o .values) 0 0) e)
 
       from : (isBadStore xs (st .count) (limitOf (st .width)) ≡ false)
           × (length buf ≡ writeLength st flag) × (anyAbove (largestOf flag) (take (2 * st .count) xs) ≡ false) × (m ≡ writeLength st flag)
-          → writeOutcome xs st flag buf ≡ accepted (m ∷ [])
+          → toBytesOutcome xs st flag buf ≡ accepted (m ∷ [])
       from h =
-          first-none (writeChecks xs st flag (length buf)) done (h .0, (ap not (eq-eqb (length buf) (writeLength st flag) (h .1)), (h .2, tt)))
+          first-none (toBytesChecks xs st flag (length buf)) done (h .0, (ap not (eq-eqb (length buf) (writeLength st flag) (h .1)), (h .2, tt)))
           ∙ ap (λ (k : ℕ). accepted (k ∷ [])) (sym (h .3))
 
   -- the buffer afterwards is exactly the octets, m of them
-  pub write-octets : (m : ℕ) → writeOutcome xs st flag buf ≡ accepted (m ∷ []) → writeBuffer xs st flag buf ≡ fields (fieldLength flag) (take (2 * st .count) xs)
+  pub write-octets : (m : ℕ) → toBytesOutcome xs st flag buf ≡ accepted (m ∷ []) → toBytesBuffer xs st flag buf ≡ fields (fieldLength flag) (take (2 * st .count) xs)
   write-octets m h = ap (λ (o : Outcome). lent o (fields (fieldLength flag) (take (2 * st .count) xs)) buf) h
 
-  pub write-count : (m : ℕ) → writeOutcome xs st flag buf ≡ accepted (m ∷ []) → length (writeBuffer xs st flag buf) ≡ m
+  pub write-count : (m : ℕ) → toBytesOutcome xs st flag buf ≡ accepted (m ∷ []) → length (toBytesBuffer xs st flag buf) ≡ m
   write-count m h =
       let w = write-accepted m .0 h in
       let g = good xs (st .count) (limitOf (st .width)) (w .0) in
@@ -78,9 +78,9 @@ module _ (xs : List ℕ) (st : Store) (flag : LargeFileFlag) (buf : List ℕ) wh
 
   -- a buffer of another length is 6, whatever the numbers are
   pub write-mismatch : isBadStore xs (st .count) (limitOf (st .width)) ≡ false → (length buf ≡ writeLength st flag → ⊥)
-      → writeOutcome xs st flag buf ≡ refusing (refusal.BufferSizeMissmatch (writeLength st flag) (length buf))
+      → toBytesOutcome xs st flag buf ≡ refusing (refusal.BufferSizeMissmatch (writeLength st flag) (length buf))
   write-mismatch e n = rw (e, ne-eqb (length buf) (writeLength st flag) n)
 
   -- under a refusal the buffer stays as it was
-  pub write-refused : (writeOutcome xs st flag buf .number ≡ 0 → ⊥) → writeBuffer xs st flag buf ≡ buf
-  write-refused n = lent-old (writeOutcome xs st flag buf) (fields (fieldLength flag) (take (2 * st .count) xs)) buf n
+  pub write-refused : (toBytesOutcome xs st flag buf .number ≡ 0 → ⊥) → toBytesBuffer xs st flag buf ≡ buf
+  write-refused n = lent-old (toBytesOutcome xs st flag buf) (fields (fieldLength flag) (take (2 * st .count) xs)) buf n

@@ -15,7 +15,7 @@ use Rattle.octets.specs.Flag.{fieldLength}
 use Rattle.octets.specs.Octets.{fields}
 use Rattle.octets.proofs.Over.{over-whole}
 use Rattle.segment_store.specs.declared.Store.{Store}
-use Rattle.segment_store.specs.WriteSegmentsToBytes.{writeLength, writeChecks}
+use Rattle.segment_store.specs.WriteSegmentsToBytes.{writeLength, toBytesChecks}
 use Rattle.outcomes.proofs.Ends.{checks-passed, refused-end, passed-end}
 use Rattle.segment_store.proofs.write_segments_to_bytes.Sizes.{pair-octets, length-octets}
 use Rattle.lost_segments.proofs.write_segments_to_bytes.write_segments_to_bytes.Statement.{statement}
@@ -36,7 +36,7 @@ flag b = b .before .before .before .args .flag
 
 -- the checks, what they leave, and the octets then
 abbrev checks : tie.After-write-checks → List Check
-checks b = writeChecks (xs b) (st b) (flag b) (length (buf b))
+checks b = toBytesChecks (xs b) (st b) (flag b) (length (buf b))
 
 abbrev done : tie.After-write-checks → Outcome
 done b = accepted (writeLength (st b) (flag b) ∷ [])

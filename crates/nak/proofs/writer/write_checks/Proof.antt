@@ -13,6 +13,7 @@ use Rattle.outcomes.specs.Checks.{firstOf, NoneOf, verdictCase}
 use Rattle.outcomes.specs.declared.Refusal.{Refusal}
 use Rattle.outcomes.proofs.FirstOf.{first-none, first-refused, none-of}
 use Rattle.octets.specs.Flag.{largestOf}
+use Rattle.nak.specs.Header.{isReservedSet}
 use Rattle.nak.specs.Pdu.{Nak, saying, pduLength, pdu}
 use Rattle.nak.specs.Request.{requestsChecks}
 use Rattle.nak.specs.Writer.{largestPdu, isBadList, isBadIdentity, numbersOf, writeChecks}
@@ -46,21 +47,29 @@ start2 c = start1 (c .before .before)
 identity : (c : tie.Else2) → isBadIdentity (start2 c .args .identity) ≡ false
 identity c = sym (c .before .bad-identity .ensures) ∙ c .if2 .left
 
--- 18 is passed
+-- 15 is passed
 abbrev start3 : tie.Else3 → tie.Start
-start3 c = start2 (c .before)
+start3 c = start2 (c .before .before)
 
-then-requests : (c : tie.Else3) → let s = start3 c in said s ≡ firstOf (requestsChecks (pairs (xs s))) (firstOf (lastChecks (nak s) (s .args .given)) (accepted []))
+reserved : (c : tie.Else3) → isReservedSet (start3 c .args .form .edition) (start3 c .args .form .flag) ≡ false
+reserved c = sym (c .before .reserved-set .ensures) ∙ c .if3 .left
+
+-- 18 is passed
+abbrev start4 : tie.Else4 → tie.Start
+start4 c = start3 (c .before)
+
+then-requests : (c : tie.Else4) → let s = start4 c in said s ≡ firstOf (requestsChecks (pairs (xs s))) (firstOf (lastChecks (nak s) (s .args .given)) (accepted []))
 then-requests c =
-    let s = start3 c in
-    from-requests (xs s) (nak s) (s .args .given) (accepted []) (list (c .before .before .before)) (identity (c .before)) (omega (arith, c .if3 .left))
+    let s = start4 c in
+    let e = c .before in
+    from-requests (xs s) (nak s) (s .args .given) (accepted []) (list (e .before .before .before .before)) (identity (e .before .before)) (reserved e) (omega (arith, c .if4 .left))
 
 -- the requests are passed
-abbrev fromR : tie.After-enum-told → tie.Else3
+abbrev fromR : tie.After-enum-told → tie.Else4
 fromR c = c .before .before .before
 
 abbrev startR : tie.After-enum-told → tie.Start
-startR c = start3 (fromR c)
+startR c = start4 (fromR c)
 
 requests : (c : tie.After-enum-told) → NoneOf (requestsChecks (pairs (xs (startR c))))
 requests c = none-of (requestsChecks (pairs (xs (startR c)))) (ap verdictCase (sym (c .enum-told .given .1)) ∙ c .before .before .check-requests .ensures)
@@ -69,7 +78,7 @@ then-last : (c : tie.After-enum-told) → let s = startR c in said s ≡ firstOf
 then-last c = then-requests (fromR c) ∙ first-none (requestsChecks (pairs (xs (startR c)))) _ (requests c)
 
 even : (c : tie.After-enum-told) → flat (pairs (xs (startR c))) ≡ xs (startR c)
-even c = flat-pairs (xs (startR c)) (good-list (xs (startR c)) (list (fromR c .before .before .before)) .0)
+even c = flat-pairs (xs (startR c)) (good-list (xs (startR c)) (list (fromR c .before .before .before .before .before)) .0)
 
 -- whether a number is above the flag's largest
 abbrev fromA : tie.After-any-number-above → tie.After-enum-told
@@ -90,11 +99,11 @@ total c =
     let e : pduLength (s .args .form) (s .args .identity) (length (xs s)) ≡ pduLength (s .args .form) (s .args .identity) (length (flat (pairs (xs s)))) = rw (even (fromA (c .before .before))) in
     c .pdu-length .ensures ∙ e ∙ pdu-length (nak s)
 
-not-above : (c : tie.Else4) → let s = startR (fromA (c .before)) in anyAbove (largestOf (s .args .form .flag)) (numbersOf (nak s)) ≡ false
-not-above c = sym (above (c .before)) ∙ c .if4 .left
+not-above : (c : tie.Else5) → let s = startR (fromA (c .before)) in anyAbove (largestOf (s .args .form .flag)) (numbersOf (nak s)) ≡ false
+not-above c = sym (above (c .before)) ∙ c .if5 .left
 
-small : (c : tie.Else5) → length (pdu (nak (startP (c .before)))) ≤ largestPdu
-small c = omega (arith, total (c .before), c .if5 .left)
+small : (c : tie.Else6) → length (pdu (nak (startP (c .before)))) ≤ largestPdu
+small c = omega (arith, total (c .before), c .if6 .left)
 
 bad-list-requires : tie.Need-bad-list-requires
 bad-list-requires c κs = search needs
@@ -108,8 +117,16 @@ bad-identity-requires c κs = search needs
 returns-2 : tie.Need-returns-2
 returns-2 c = rw (list (c .before .before), sym (c .before .bad-identity .ensures) ∙ c .if2 .taken)
 
+reserved-set-requires : tie.Need-reserved-set-requires
+reserved-set-requires c κs = search needs
+
 returns-3 : tie.Need-returns-3
-returns-3 c = rw (list (c .before .before .before), identity (c .before), lt-ltb _ _ (c .if3 .taken))
+returns-3 c = rw (list (c .before .before .before .before), identity (c .before .before), sym (c .before .reserved-set .ensures) ∙ c .if3 .taken)
+
+returns-4 : tie.Need-returns-4
+returns-4 c =
+    let e = c .before in
+    rw (list (e .before .before .before .before), identity (e .before .before), reserved e, lt-ltb _ _ (c .if4 .taken))
 
 check-requests-requires : tie.Need-check-requests-requires
 check-requests-requires c κs = search needs
@@ -117,11 +134,11 @@ check-requests-requires c κs = search needs
 enum-known-found : tie.Need-enum-known-found
 enum-known-found c = search needs
 
-returns-4 : tie.Need-returns-4
-returns-4 c =
+returns-5 : tie.Need-returns-5
+returns-5 c =
     let b = c .before .before .before in
     let r : Refusal = c .before .found .given .0 .0 in
-    let s = start3 (b .before) in
+    let s = start4 (b .before) in
     let e = ap verdictCase (sym (c .before .found .given .1)) ∙ b .check-requests .ensures in
     first-refused (requestsChecks (pairs (xs s))) r (firstOf (lastChecks (nak s) (s .args .given)) (accepted [])) e ∙ sym (then-requests (b .before))
 
@@ -134,30 +151,30 @@ largest-requires c κs = search needs
 any-number-above-requires : tie.Need-any-number-above-requires
 any-number-above-requires c κs = search needs
 
-returns-5 : tie.Need-returns-5
-returns-5 c = rw (then-last (fromA (c .before)), sym (above (c .before)) ∙ c .if4 .taken)
+returns-6 : tie.Need-returns-6
+returns-6 c = rw (then-last (fromA (c .before)), sym (above (c .before)) ∙ c .if5 .taken)
 
 pdu-length-requires : tie.Need-pdu-length-requires
 pdu-length-requires c κs =
     let e = fromR (fromA (c .before)) in
-    (good-lengths (start3 e .args .identity) (identity (e .before)), good-list (xs (start3 e)) (list (e .before .before .before)) .1)
-
-returns-6 : tie.Need-returns-6
-returns-6 c =
-    let p = c .before in
-    let large : largestPdu < length (pdu (nak (startP p))) = omega (arith, total p, c .if5 .taken) in
-    rw (then-last (fromA (p .before .before)), not-above (p .before), lt-ltb _ _ large)
+    (good-lengths (start4 e .args .identity) (identity (e .before .before .before)), good-list (xs (start4 e)) (list (e .before .before .before .before .before)) .1)
 
 returns-7 : tie.Need-returns-7
 returns-7 c =
-    let p = c .before .before in
-    let other : (startP p .args .given ≡ length (pdu (nak (startP p))) → ⊥) = λ z. c .if6 .taken (z ∙ sym (total p)) in
-    rw (total p, then-last (fromA (p .before .before)), not-above (p .before), le-ltb _ _ (small (c .before)), ne-eqb _ _ other)
+    let p = c .before in
+    let large : largestPdu < length (pdu (nak (startP p))) = omega (arith, total p, c .if6 .taken) in
+    rw (then-last (fromA (p .before .before)), not-above (p .before), lt-ltb _ _ large)
 
 returns-8 : tie.Need-returns-8
 returns-8 c =
     let p = c .before .before in
-    rw (then-last (fromA (p .before .before)), not-above (p .before), le-ltb _ _ (small (c .before)), eq-eqb _ _ (c .if6 .left ∙ total p))
+    let other : (startP p .args .given ≡ length (pdu (nak (startP p))) → ⊥) = λ z. c .if7 .taken (z ∙ sym (total p)) in
+    rw (total p, then-last (fromA (p .before .before)), not-above (p .before), le-ltb _ _ (small (c .before)), ne-eqb _ _ other)
+
+returns-9 : tie.Need-returns-9
+returns-9 c =
+    let p = c .before .before in
+    rw (then-last (fromA (p .before .before)), not-above (p .before), le-ltb _ _ (small (c .before)), eq-eqb _ _ (c .if7 .left ∙ total p))
 
 pub write-checks-spec : {M : Type 1} → statement M
 write-checks-spec =
@@ -167,15 +184,17 @@ write-checks-spec =
     returns
     bad-identity-requires
     returns-2
+    reserved-set-requires
     returns-3
+    returns-4
     check-requests-requires
     enum-known-found
-    returns-4
+    returns-5
     enum-told
     largest-requires
     any-number-above-requires
-    returns-5
-    pdu-length-requires
     returns-6
+    pdu-length-requires
     returns-7
-    returns-8)
+    returns-8
+    returns-9)

@@ -1,7 +1,7 @@
 -- `nak_parser::inner::check_packet` meets its contract. The loop's invariant: the outcome of the requests ahead is that of all.
 use native.Mathlib.Nat.{mul-zero, mul-suc, add-zero, sub-zero}
 use Rattle.nak.proofs.Requests.{late-start, empty-one, fine-one}
-use Rattle.nak_parser.proofs.Turn.{packet-turn}
+use Rattle.nak_parser.proofs.FirstRequest.{first-request}
 use Rattle.nak_parser.specs.Parser.{requestsIn}
 use Rattle.nak.specs.Request.{checksFrom}
 use Rattle.outcomes.specs.Outcome.{Outcome, accepted}
@@ -59,7 +59,7 @@ returns c =
     let a = c .before .before .before .before .before .before .args in
     let k = room-all (2 * a .f) (l .i) (a .count) (omega arith) in
     let m : a .count - l .i ≡ suc (a .count - (l .i + 1)) = omega arith in
-    let t = packet-turn (a .packet .now) (l .at) (a .f) (a .count - (l .i + 1)) (c .before .before .get .ensures) (c .before .get2 .ensures) in
+    let t = first-request (a .packet .now) (l .at) (a .f) (a .count - (l .i + 1)) (c .before .before .get .ensures) (c .before .get2 .ensures) in
     let v = rw m at (l .inv .2) in
     sym (late-start (l .none) (accepted []) t (c .if1 .taken)) ∙ v
 
@@ -72,7 +72,7 @@ returns-2 c =
     let a = c .before .before .before .before .before .before .before .before .args in
     let k = room-all (2 * a .f) (l .i) (a .count) (omega arith) in
     let m : a .count - l .i ≡ suc (a .count - (l .i + 1)) = omega arith in
-    let t = packet-turn (a .packet .now) (l .at) (a .f) (a .count - (l .i + 1)) (c .before .before .before .before .get .ensures) (c .before .before .before .get2 .ensures) in
+    let t = first-request (a .packet .now) (l .at) (a .f) (a .count - (l .i + 1)) (c .before .before .before .before .get .ensures) (c .before .before .before .get2 .ensures) in
     let v = rw m at (l .inv .2) in
     sym (empty-one (l .none) (accepted []) t (omega arith) (sym (c .before .is-empty .ensures) ∙ c .if2 .taken)) ∙ v
 
@@ -101,7 +101,7 @@ loop-again c =
     let a = c .before .before .before .before .before .before .before .before .before .args in
     let k = room-all (2 * a .f) (l .i) (a .count) (omega arith) in
     let m : a .count - l .i ≡ suc (a .count - (l .i + 1)) = omega arith in
-    let t = packet-turn (a .packet .now) (l .at) (a .f) (a .count - (l .i + 1)) (c .before .before .before .before .before .get .ensures) (c .before .before .before .before .get2 .ensures) in
+    let t = first-request (a .packet .now) (l .at) (a .f) (a .count - (l .i + 1)) (c .before .before .before .before .before .get .ensures) (c .before .before .before .before .get2 .ensures) in
     let v = rw m at (l .inv .2) in
     let fine = fine-one (l .none) (accepted []) t (omega arith) (sym (c .before .before .is-empty .ensures) ∙ c .before .if2 .left) in
     (search needs, rw (add-one, mul-suc) (omega arith), rw (c .none-after .ensures) (sym fine ∙ v))

@@ -1,10 +1,10 @@
 -- `nak_parser::inner::identity_in` meets its contract: three fields, one behind the other.
 use native.Mathlib.Omega.{arith}
 use Prim.Native.Nat.{ℕ, _+_, _*_, _≤_}
-use mathlib.Core.Path.{_≡_, ap}
+use mathlib.Core.Path.{_≡_}
 use mathlib.Core.List.{List}
 use lib.ListN.{length}
-use Rattle.nak_parser.specs.Parser.{headerIn}
+use Rattle.nak_parser.specs.Parser.{entityLengthIn, numberLengthIn}
 use Rattle.nak_parser.specs.declared.inner.Header.{Header}
 use Rattle.nak_parser.proofs.Reading.{entity-high, number-high, header-is, is-identity}
 use Rattle.nak_parser.proofs.inner.identity_in.Statement.{statement}
@@ -17,11 +17,11 @@ p s = s .args .packet .now
 abbrev header : tie.Start → Header
 header s = s .args .header
 
-entity : (s : tie.Start) → header s .«entity_length» ≡ headerIn (p s) .«entity_length»
-entity s = ap (λ (h : Header). h .«entity_length») (s .pre .1)
+entity : (s : tie.Start) → header s .«entity_length» ≡ entityLengthIn (p s)
+entity s = s .pre .1
 
-numbers : (s : tie.Start) → header s .«number_length» ≡ headerIn (p s) .«number_length»
-numbers s = ap (λ (h : Header). h .«number_length») (s .pre .1)
+numbers : (s : tie.Start) → header s .«number_length» ≡ numberLengthIn (p s)
+numbers s = s .pre .2
 
 -- there is room for the three
 room : (s : tie.Start) → (4 + 2 * (header s .«entity_length») + header s .«number_length» ≤ length (p s)) × ((header s .«entity_length» ≤ 8) × (header s .«number_length» ≤ 8))

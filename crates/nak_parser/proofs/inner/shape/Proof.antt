@@ -38,13 +38,13 @@ len-is s = ap (λ (h : Header). h .«data_length») (s .pre .1)
 abbrev startF : tie.After-wrong-fixed → tie.Start
 startF c = c .before .before .before .before .before .before
 
-fixed : (c : tie.After-wrong-fixed) → c .wrong-fixed .result ≡ wrongFixed (octetAt (p (startF c)) 0) (octetAt (p (startF c)) 3)
+fixed : (c : tie.After-wrong-fixed) → c .wrong-fixed .result ≡ wrongFixed (startF c .args .edition) (octetAt (p (startF c)) 0) (octetAt (p (startF c)) 3)
 fixed c =
     let o3 = c .before .wide2 .ensures in
     let o0 = c .before .before .before .wide .ensures in
-    c .wrong-fixed .ensures ∙ ap (wrongFixed (c .before .before .before .wide .result)) o3 ∙ ap (λ (o : ℕ). wrongFixed o (octetAt (p (startF c)) 3)) o0
+    c .wrong-fixed .ensures ∙ ap (wrongFixed (startF c .args .edition) (c .before .before .before .wide .result)) o3 ∙ ap (λ (o : ℕ). wrongFixed (startF c .args .edition) o (octetAt (p (startF c)) 3)) o0
 
-fixed-right : (c : tie.Else1) → wrongFixed (octetAt (p (startF (c .before))) 0) (octetAt (p (startF (c .before))) 3) ≡ false
+fixed-right : (c : tie.Else1) → wrongFixed (startF (c .before) .args .edition) (octetAt (p (startF (c .before))) 0) (octetAt (p (startF (c .before))) 3) ≡ false
 fixed-right c = sym (fixed (c .before)) ∙ c .if1 .left
 
 -- the lengths

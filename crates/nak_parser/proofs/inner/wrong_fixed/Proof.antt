@@ -1,19 +1,23 @@
 -- `nak_parser::inner::wrong_fixed` meets its contract: the tests are the definition's.
-use Rattle.nak.specs.Header.{wrongFixed}
+use mathlib.Core.Path.{_≡_, sym, _∙_}
+use Rattle.nak.specs.Header.{fixedBits0, fixed0, wrongFixed}
 use borrow.Author.Tests.{eq-eqb, ne-eqb}
 use borrow.Author.Needs.{needs}
 use Rattle.nak_parser.proofs.inner.wrong_fixed.Statement.{statement}
 use Rattle.nak_parser.proofs.inner.wrong_fixed.Tie as tie
 
-mul-if1 : tie.Need-mul-if1
-mul-if1 c = search needs
+fixed-bits-in-requires : tie.Need-fixed-bits-in-requires
+fixed-bits-in-requires c κs = search needs
 
-cast-if1 : tie.Need-cast-if1
-cast-if1 c = search needs
+fixed-bits-requires : tie.Need-fixed-bits-requires
+fixed-bits-requires c κs = search needs
 
 returns : tie.Need-returns
 unfolding wrongFixed
-returns c = simp (ne-eqb _ _ (c .if1 .taken))
+returns c =
+    let a = c .before .before .before .args in
+    let other : (fixedBits0 (a .edition) (a .o0) ≡ fixed0 (a .edition) → ⊥) = λ e. c .if1 .taken (c .before .before .fixed-bits-in .ensures ∙ e ∙ sym (c .before .fixed-bits .ensures)) in
+    rw (ne-eqb _ _ other)
 
 mul-result : tie.Need-mul-result
 mul-result c = search needs
@@ -26,8 +30,19 @@ add-result c = search needs
 
 returns-2 : tie.Need-returns-2
 unfolding wrongFixed
-returns-2 c = simp (eq-eqb _ _ (c .if1 .left))
+returns-2 c =
+    let a = c .before .before .before .args in
+    let same : fixedBits0 (a .edition) (a .o0) ≡ fixed0 (a .edition) = sym (c .before .before .fixed-bits-in .ensures) ∙ c .if1 .left ∙ c .before .fixed-bits .ensures in
+    rw (eq-eqb _ _ same)
 
 pub wrong-fixed-spec : {M : Type 1} → statement M
 wrong-fixed-spec =
-    tie.close (tie.spec mul-if1 cast-if1 returns mul-result mul-result-2 add-result returns-2)
+    tie.close
+    (tie.spec
+    fixed-bits-in-requires
+    fixed-bits-requires
+    returns
+    mul-result
+    mul-result-2
+    add-result
+    returns-2)

@@ -13,7 +13,7 @@ use Rattle.nak.specs.declared.Identity.{Identity}
 use Rattle.ranges.specs.Range.{Range}
 use Rattle.nak.specs.declared.Form.{Form}
 use Rattle.reception.specs.declared.Reception.{Reception}
-use Rattle.sequence.specs.Entries.{askingFor, entriesIn, scopeStart, lastEndOf, nakAt}
+use Rattle.sequence.specs.Entries.{askingFor, entriesIn, scopeStart, scopeEndOf, nakAt}
 use Rattle.nak_sequence.specs.Inner.{entryCount}
 use Rattle.nak_sequence.proofs.Listed.{first-nak, later-nak, known-nak, few-first, few-later, few-known}
 use Rattle.nak_sequence.proofs.inner.write_pdu.Statement.{statement}
@@ -45,7 +45,7 @@ to s = s .before .before .scope-end .result
 starts : (s : tie.After-smaller) → from s ≡ scopeStart (entriesIn (rec s) (xs s)) (f s)
 starts s = s .before .before .before .scope-start .ensures
 
-ends : (s : tie.After-smaller) → to s ≡ lastEndOf (entriesIn (rec s) (xs s)) (rec s .progress) (k s) (f s)
+ends : (s : tie.After-smaller) → to s ≡ scopeEndOf (entriesIn (rec s) (xs s)) (rec s .progress) (k s) (f s)
 ends s = s .before .before .scope-end .ensures
 
 holds : (s : tie.After-smaller) → s .smaller .result ≡ min (k s) (entryCount (rec s) - f s)

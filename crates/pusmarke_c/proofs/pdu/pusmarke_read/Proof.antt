@@ -5,6 +5,9 @@ use Rattle.c_values.specs.Output.{nakOut}
 use Rattle.pusmarke_c.proofs.pdu.pusmarke_read.Statement.{statement}
 use Rattle.pusmarke_c.proofs.pdu.pusmarke_read.Tie as tie
 
+edition-in-requires : tie.Need-edition-in-requires
+edition-in-requires c κs = search needs
+
 parse-requires : tie.Need-parse-requires
 parse-requires c κs = search needs
 
@@ -15,8 +18,11 @@ flag-out-requires : tie.Need-flag-out-requires
 flag-out-requires c κs = search needs
 
 returns : tie.Need-returns
-returns c = rw (c .flag-out .ensures, c .before .identity-out .ensures) (ap nakOut (c .before .before .before .before .parse .ensures))
+returns c =
+    let b = c .before .before .before .before in
+    let said = rw (b .before .edition-in .ensures) at (b .parse .ensures) in
+    rw (c .flag-out .ensures, c .before .identity-out .ensures) (ap nakOut said)
 
 pub pusmarke-read-spec : {M : Type 1} → statement M
 pusmarke-read-spec =
-    tie.close (tie.spec parse-requires identity-out-requires flag-out-requires returns)
+    tie.close (tie.spec edition-in-requires parse-requires identity-out-requires flag-out-requires returns)

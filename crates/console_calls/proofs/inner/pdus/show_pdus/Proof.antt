@@ -6,10 +6,13 @@ use Rattle.console_calls.proofs.inner.pdus.show_pdus.Statement.{stateme
 use Rattle.console_calls.proofs.inner.pdus.show_pdus.Tie as tie
 
 abbrev Inv-loop : tie.InvT-loop
-Inv-loop octets pdus out₀ next₀ at₀ left₀ t11 out next at left = at ≤ length octets
+Inv-loop octets pdus out₀ edition next₀ at₀ left₀ t12 out next at left = at ≤ length octets
 
 abbrev μ-loop : tie.MeasureT-loop
-μ-loop octets pdus out₀ next₀ at₀ left₀ t11 out next at left = left
+μ-loop octets pdus out₀ edition next₀ at₀ left₀ t12 out next at left = left
+
+edition-requires : tie.Need-edition-requires Inv-loop μ-loop
+edition-requires c κs = search needs
 
 loop-holds : tie.Need-loop-holds Inv-loop μ-loop
 loop-holds c = search needs
@@ -68,6 +71,7 @@ show-pdus-spec =
     (tie.spec
     Inv-loop
     μ-loop
+    edition-requires
     loop-holds
     sub-pdu-length
     part-pdu-length-start

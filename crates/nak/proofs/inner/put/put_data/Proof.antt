@@ -6,7 +6,7 @@ use Prim.Native.Nat.{_+_, _*_, _≤_}
 use lib.ListN.{length}
 use Rattle.ranges.specs.Store.{flat}
 use Rattle.octets.specs.Octets.{fields}
-use Rattle.nak.specs.Inner.{asked}
+use Rattle.nak.specs.Inner.{metadataFirst}
 use borrow.Author.Needs.{needs}
 use Rattle.nak.proofs.inner.put.put_data.Statement.{statement}
 use Rattle.nak.proofs.inner.put.put_data.Tie as tie
@@ -28,7 +28,7 @@ abbrev start : tie.After-put → tie.Start
 start c = c .before .before .before .before
 
 -- there is room for each
-room : (s : tie.Start) → s .args .at + (1 + 2 * s .args .f + length (fields (s .args .f) (flat (asked (s .args .metadata)))) + s .args .f * (2 * s .args .count)) ≤ length (s .args .buf .now)
+room : (s : tie.Start) → s .args .at + (1 + 2 * s .args .f + length (fields (s .args .f) (flat (metadataFirst (s .args .metadata)))) + s .args .f * (2 * s .args .count)) ≤ length (s .args .buf .now)
 room s = omega (arith, data-room (s .args .f) (s .args .metadata) (s .args .count), s .pre .0)
 
 cast-put : tie.Need-cast-put

@@ -1,9 +1,7 @@
 -- `nak::inner::put::put_header` meets its contract: the octets written side by side are the header.
-use Rattle.nak.proofs.Puts.{flag-low, header-puts}
-use Rattle.nak.specs.Header.{fixed0}
+use Rattle.nak.proofs.Puts.{header-puts}
 use native.Mathlib.Omega.{arith}
-use Prim.Native.Nat.{ℕ, _+_}
-use mathlib.Core.Path.{ap, _∙_}
+use mathlib.Core.Path.{_∙_}
 use borrow.Author.Needs.{needs}
 use Rattle.nak.proofs.inner.put.put_header.Statement.{statement}
 use Rattle.nak.proofs.inner.put.put_header.Tie as tie
@@ -18,20 +16,14 @@ from2 c = c .before .before .before .before .before
 abbrev start : tie.After-put → tie.Start
 start c = c .before .before .before .before
 
-cast-put : tie.Need-cast-put
-cast-put c = search needs
-
-flag-bit-requires : tie.Need-flag-bit-requires
-flag-bit-requires c κs = search needs
-
-add-put : tie.Need-add-put
-add-put c = omega (arith, flag-low (c .before .before .before .args .form .flag), c .flag-bit .ensures)
+octet-0-requires : tie.Need-octet-0-requires
+octet-0-requires c κs = search needs
 
 put-requires : tie.Need-put-requires
 put-requires c κs = search needs
 
-add-put-2 : tie.Need-add-put-2
-add-put-2 c = search needs
+add-put : tie.Need-add-put
+add-put c = search needs
 
 wide-requires : tie.Need-wide-requires
 wide-requires c κs = search needs
@@ -39,8 +31,8 @@ wide-requires c κs = search needs
 put-requires-2 : tie.Need-put-requires-2
 put-requires-2 c κs = search needs
 
-add-put-3 : tie.Need-add-put-3
-add-put-3 c = search needs
+add-put-2 : tie.Need-add-put-2
+add-put-2 c = search needs
 
 sub-wide : tie.Need-sub-wide
 sub-wide c = search needs
@@ -69,9 +61,8 @@ returns c =
     let p2 = from3 p3 in
     let p1 = from2 p2 in
     let s = start p1 in
-    let octet0 = ap (λ (v : ℕ). fixed0 + v) (p1 .before .flag-bit .ensures) in
     header-puts (s .args .buf .now) (s .args .at) (s .args .form) (s .args .i) (s .args .q) (s .args .len)
-    octet0
+    (p1 .before .octet-0 .ensures)
     (p2 .before .wide .ensures)
     (p3 .before .wide2 .ensures ∙ omega arith)
     (p1 .put .ensures)
@@ -83,14 +74,12 @@ pub put-header-spec : {M : Type 1} → statement M
 put-header-spec =
     tie.close
     (tie.spec
-    cast-put
-    flag-bit-requires
-    add-put
+    octet-0-requires
     put-requires
-    add-put-2
+    add-put
     wide-requires
     put-requires-2
-    add-put-3
+    add-put-2
     sub-wide
     mul-wide
     sub-wide-2

@@ -5,7 +5,7 @@ use mathlib.Core.Path.{_≡_, sym, ap, _∙_}
 use lib.ListN.{length}
 use Rattle.ranges.specs.Store.{flat}
 use Rattle.octets.specs.Flag.{fieldLength}
-use Rattle.nak.specs.Inner.{asked, entries}
+use Rattle.nak.specs.Inner.{metadataFirst, entries}
 use Rattle.nak.specs.Pdu.{Nak, saying, headerLength, dataLength, pduLength, dataField, pdu}
 use Rattle.nak.proofs.Parts.{length-entries, length-data, pdu-length, data-low}
 use Rattle.nak.proofs.Puts.{pdu-puts}
@@ -18,7 +18,7 @@ abbrev nak : tie.Start → Nak
 nak s = saying (s .args .form) (s .args .identity) (s .args .start) (s .args .end) (entries (s .args .metadata) (s .args .requests .now) (s .args .first) (s .args .count))
 
 abbrev numbers : tie.Start → ℕ
-numbers s = length (flat (asked (s .args .metadata))) + 2 * s .args .count
+numbers s = length (flat (metadataFirst (s .args .metadata))) + 2 * s .args .count
 
 entered : (s : tie.Start) → length (flat (nak s .requests)) ≡ numbers s
 entered s = length-entries (s .args .metadata) (s .args .requests .now) (s .args .first) (s .args .count) (s .pre .1)
