@@ -31,7 +31,7 @@ editionIn older = cond (isSet older) Older Newer
 
 -- The form of a PDU, by its marks.
 abbrev pub formIn : PusmarkeForm → Form
-formIn g = record { edition = editionIn (g .older); flag = flagIn (g .large) }
+formIn g = record { edition = editionIn (g .older); flag = flagIn (g .large); crc = isSet (g .crc) }
 
 -- The store with this count and width.
 abbrev pub storeOf : ℕ → ℕ → Store

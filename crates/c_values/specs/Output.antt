@@ -80,6 +80,7 @@ nakOut p =
       end = p .end;
       identity = identityOut (p .identity);
       large = flagOut (p .form .flag);
+      crc = markOf (p .form .crc);
       «scope_start» = p .«scope_start»;
       «scope_end» = p .«scope_end»;
       from = p .from;

@@ -60,7 +60,8 @@ pub fn form_in(form: PusmarkeForm) -> Form
 {
     let edition = edition_in(form.older);
     let flag = flag_in(form.large);
-    Form { edition, flag }
+    let crc = is_set(form.crc);
+    Form { edition, flag, crc }
 }
 
 pub fn store_of(count: usize, narrow: u64) -> Store

@@ -23,11 +23,12 @@ pub struct PusmarkeIdentity {
     pub destination: u64,
 }
 
-// The form of a PDU: of `older` and `large`, 0 is no and any other number is yes.
+// The form of a PDU: of `older`, `large` and `crc`, 0 is no and any other number is yes.
 #[repr(C)]
 pub struct PusmarkeForm {
     pub older: u64,
     pub large: u64,
+    pub crc: u64,
 }
 
 // What reading hands back; refusal 3 carries `start` and `end`.
@@ -38,6 +39,7 @@ pub struct PusmarkeNak {
     pub end: u64,
     pub identity: PusmarkeIdentity,
     pub large: u64,
+    pub crc: u64,
     pub scope_start: u64,
     pub scope_end: u64,
     pub from: usize,

@@ -51,9 +51,16 @@ both-hold : (s t : Bool) → (s && t) ≡ true → (s ≡ true) × (t ≡ true)
 both-hold true t e = (refl, e)
 both-hold false t e = absurd (true≢false (sym e))
 
--- the test says whether octets end in their CRC
+-- the test says yes to what ends in its CRC
+pub ends-tested : (p : List ℕ) → EndsInCrc p → endsInCrc p ≡ true
+ends-tested p ends =
+    let t = apart p ends in
+    let n : number (last-two p) ≡ crcOf (front p) = ap number (t .1) ∙ trailer-number (crcOf (front p)) (crc-lt (front p)) in
+    rw (le-leb 2 (length p) (t .0), eq-eqb (number (last-two p)) (crcOf (front p)) n)
+
+-- and to nothing else
 pub test-exactly : (p : List ℕ) → AllOctets p → (endsInCrc p ≡ true) ↔ EndsInCrc p
-test-exactly p a = (to, back)
+test-exactly p a = (to, ends-tested p)
   where
     to : endsInCrc p ≡ true → EndsInCrc p
     to e =
@@ -61,12 +68,6 @@ test-exactly p a = (to, back)
         let l = length-last p (leb-true 2 (length p) (b .0)) in
         let n : number (last-two p) ≡ crcOf (front p) = eqb-true (number (last-two p)) (crcOf (front p)) (b .1) in
         together p (sym (put-got (last-two p) (octets-drop (length p - 2) p a)) ∙ ap₂ field l n ∙ trailer-field (crcOf (front p)) (crc-lt (front p)))
-
-    back : EndsInCrc p → endsInCrc p ≡ true
-    back ends =
-        let t = apart p ends in
-        let n : number (last-two p) ≡ crcOf (front p) = ap number (t .1) ∙ trailer-number (crcOf (front p)) (crc-lt (front p)) in
-        rw (le-leb 2 (length p) (t .0), eq-eqb (number (last-two p)) (crcOf (front p)) n)
 
 abbrev one-if : Bool → ℕ
 one-if t = cond t 1 0

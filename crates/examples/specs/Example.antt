@@ -1,5 +1,6 @@
 -- What a traced example of document 01 does, and what comes of it by the definitions that the calls' contracts cite.
 use Prim.Native.Nat.{ℕ, _*_, _-_}
+use mathlib.Core.Bool.{false}
 use mathlib.Core.List.{List, [], _∷_, _++_}
 use lib.ListN.{length, replicate}
 use Rattle.ranges.specs.Range.{Range}
@@ -59,9 +60,9 @@ scopes (n ∷ ns) = n .scope .start ∷ n .scope .end ∷ scopes ns
 abbrev pub anyIdentity : Identity
 anyIdentity = record { «entity_length» = 1; «number_length» = 1; source = 1; number = 7; destination = 2 }
 
--- The large file flag normal; no scope depends on it.
+-- The newer edition, the large file flag normal, no trailer; no scope depends on it.
 abbrev pub anyForm : Form
-anyForm = record { edition = Newer; flag = Normal }
+anyForm = record { edition = Newer; flag = Normal; crc = false }
 
 -- The PDUs of a call from cursor 0 on with a budget of 16; the largest PDU has its say in the number of requests alone.
 abbrev pub sentBy : Asking → List Nak

@@ -52,11 +52,12 @@ fn example_identity() -> Identity {
     }
 }
 
-// The newer edition, numbers of four octets.
+// The newer edition, numbers of four octets, no trailer.
 fn normal_form() -> Form {
     Form {
         edition: Edition::Newer,
         flag: LargeFileFlag::Normal,
+        crc: false,
     }
 }
 

@@ -1,7 +1,7 @@
 -- The parts of a PDU, and their lengths.
 use mathlib.Core.Path.{_≡_, refl, ap, _∙_}
-use mathlib.Core.Bool.{Bool, true}
-use mathlib.Core.List.{List, _∷_, _++_, append-nil}
+use mathlib.Core.Bool.{Bool, true, false}
+use mathlib.Core.List.{List, _∷_, _++_}
 use Prim.Native.Nat.{ℕ, suc, _+_, _*_, _≤_}
 use native.Mathlib.Nat.{mul-add, mul-assoc, mul-comm}
 use native.Mathlib.Omega.{arith}
@@ -17,7 +17,7 @@ use Rattle.octets.specs.declared.LargeFileFlag.the-variants.{Normal, Large}
 use Rattle.octets.proofs.Fields.{length-field, length-fields}
 use Rattle.nak.specs.declared.Form.{Form}
 use Rattle.nak.specs.declared.Identity.{Identity}
-use Rattle.nak.specs.Pdu.{Nak, headerOctets, identityOctets, dataOctets, dataField, header, front, pdu, headerLength, pduLength}
+use Rattle.nak.specs.Pdu.{Nak, headerOctets, identityOctets, dataOctets, dataField, header, front, trailer, pdu, headerLength, trailerLength, pduLength}
 use Rattle.nak.specs.Inner.{metadataFirst, pairsFrom, entries}
 use Rattle.nak.proofs.Flat.{flat-pairs}
 
@@ -36,17 +36,38 @@ pub length-data : (f : ℕ) (s : Range) (rs : List Range) → length (dataOctets
 unfolding dataOctets
 length-data f s rs = ap suc (length-fields f (s .start ∷ s .end ∷ flat rs)) ∙ omega arith
 
--- nothing stands behind the data field
-pub pdu-front : (n : Nak) → pdu n ≡ front n
+-- the trailer stands behind the data field
+pub pdu-parts : (n : Nak) → pdu n ≡ front n ++ trailer (n .form) (front n)
 unfolding pdu
-pdu-front n = append-nil (front n)
+pdu-parts n = refl
 
-pub length-pdu : (n : Nak) → length (pdu n) ≡ headerLength (n .identity .«entity_length») (n .identity .«number_length») + length (dataField n)
-length-pdu n =
+pub length-trailer : (g : Form) (os : List ℕ) → length (trailer g os) ≡ trailerLength g
+length-trailer g os = go (g .crc) refl
+  where
+    go : (t : Bool) → g .crc ≡ t → length (trailer g os) ≡ trailerLength g
+    go true e = rw e
+    go false e = rw e
+
+pub two-octets : (g : Form) → g .crc ≡ true → trailerLength g ≡ 2
+two-octets g e = rw e
+
+pub trailer-high : (g : Form) → trailerLength g ≤ 2
+trailer-high g = go (g .crc) refl
+  where
+    go : (t : Bool) → g .crc ≡ t → trailerLength g ≤ 2
+    go true e = rw e (omega arith)
+    go false e = rw e (omega arith)
+
+pub length-front : (n : Nak) → length (front n) ≡ headerLength (n .identity .«entity_length») (n .identity .«number_length») + length (dataField n)
+length-front n =
     let d = n .identity in
-    let h = length-header (n .form) (d .«entity_length») (d .«number_length») (length (dataField n)) in
+    let h = length-header (n .form) (d .«entity_length») (d .«number_length») (length (dataField n) + trailerLength (n .form)) in
     let e = length-identity d in
-    rw (pdu-front n, length-append (header n), length-append (identityOctets d)) (omega arith)
+    rw (length-append (header n), length-append (identityOctets d)) (omega arith)
+
+pub length-pdu : (n : Nak)
+    → length (pdu n) ≡ headerLength (n .identity .«entity_length») (n .identity .«number_length») + length (dataField n) + trailerLength (n .form)
+length-pdu n = rw (pdu-parts n, length-append (front n), length-trailer (n .form) (front n), length-front n)
 
 -- the flat list of some of its pairs
 pub flat-from : (xs : List ℕ) (first count : ℕ) → 2 * first + 2 * count ≤ length xs → flat (pairsFrom xs first count) ≡ take (2 * count) (drop (2 * first) xs)
@@ -88,9 +109,10 @@ f-high Large m e h = rw e (omega arith)
 pub pdu-length : (n : Nak) → pduLength (n .form) (n .identity) (length (flat (n .requests))) ≡ length (pdu n)
 pdu-length n = rw (length-pdu n, length-data (fieldLength (n .form .flag)) (n .scope) (n .requests))
 
--- the PDU's length by its requests: H + 1 + 2F for the scope, and 2F for each request
+-- the PDU's length by its requests: H + 1 + 2F for the scope, 2F for each request, and the trailer
 pub length-of-pdu : (n : Nak)
     → length (pdu n) ≡ headerLength (n .identity .«entity_length») (n .identity .«number_length») + 1 + 2 * fieldLength (n .form .flag) + 2 * fieldLength (n .form .flag) * length (n .requests)
+    + trailerLength (n .form)
 length-of-pdu n =
     let f = fieldLength (n .form .flag) in
     length-pdu n ∙ rw (length-data f (n .scope) (n .requests), length-flat (n .requests), mul-add f 2, ← mul-assoc f 2, mul-comm f 2) (omega arith)

@@ -1,10 +1,11 @@
 -- Parts written side by side make the header, the identity, the data field, the PDU.
 use mathlib.Core.Path.{_≡_, refl, sym, ap, _∙_}
-use mathlib.Core.Bool.{Bool, true}
+use mathlib.Core.Bool.{Bool, true, false}
 use mathlib.Core.List.{List, _++_, append-assoc, append-nil}
-use Prim.Native.Nat.{ℕ, _+_, _*_, _≤_}
+use Prim.Native.Nat.{ℕ, _+_, _*_, _-_, _≤_}
 use native.Mathlib.Omega.{arith}
 use lib.ListN.{length, take, drop, length-append}
+use lib.Seq.{take-at, drop-at, length-take-le}
 use Rattle.ranges.specs.Range.{range}
 use Rattle.ranges.specs.Store.{flat}
 use Rattle.octets.specs.Octets.{field, fields, withOctets}
@@ -16,15 +17,19 @@ use Rattle.nak.specs.declared.Form.{Form}
 use Rattle.nak.specs.declared.Identity.{Identity}
 use Rattle.nak.specs.declared.Edition.{Edition}
 use Rattle.nak.specs.declared.Edition.the-variants.{Older, Newer}
-use Rattle.nak.specs.Header.{fixed0, flagBit, octet0, octet3}
-use Rattle.nak.specs.Pdu.{Nak, nakCode, headerOctets, identityOctets, dataOctets, dataField, pdu}
+use Rattle.nak.specs.Header.{fixed0, crcBit, flagBit, octet0, octet3}
+use Rattle.nak.specs.Pdu.{Nak, nakCode, headerOctets, identityOctets, dataOctets, dataField, trailerLength, front, trailer, pdu}
 use Rattle.nak.specs.Inner.{metadataFirst, entries}
-use Rattle.nak.proofs.Parts.{length-header, length-identity, pdu-front, flat-entries}
+use Rattle.nak.proofs.Parts.{length-header, length-identity, pdu-parts, flat-entries}
 
 -- octet 0's parts are small
 pub fixed-low : (e : Edition) → fixed0 e ≤ 40
 fixed-low Older = omega arith
 fixed-low Newer = omega arith
+
+pub crc-low : (t : Bool) → crcBit t ≤ 1
+crc-low true = omega arith
+crc-low false = omega arith
 
 pub flag-low : (g : LargeFileFlag) → flagBit g ≤ 1
 flag-low Normal = omega arith
@@ -103,16 +108,16 @@ data-puts xs list at f s e m first count {place} h1 h2 h3 h4 h5 h6 k r =
     let t4 = over-then xs at place (c ++ field f s ++ field f e ++ a) (fields f n) t3 h6 (omega arith) (omega arith) in
     t4 ∙ ap (withOctets xs at) (rw (flat-entries m list first count k, fields-append f (flat (metadataFirst m))) (simp append-assoc))
 
-pub pdu-puts :
+pub front-puts :
     (xs : List ℕ) (at : ℕ) (n : Nak) {len place : ℕ} {ys zs ws : List ℕ}
-    → len ≡ length (dataField n)
+    → len ≡ length (dataField n) + trailerLength (n .form)
     → place ≡ at + 4 + 2 * (n .identity .«entity_length») + n .identity .«number_length»
     → ys ≡ withOctets xs at (headerOctets (n .form) (n .identity .«entity_length») (n .identity .«number_length») len)
     → zs ≡ withOctets ys (at + 4) (identityOctets (n .identity))
     → ws ≡ withOctets zs place (dataField n)
     → place ≤ length xs
-    → ws ≡ withOctets xs at (pdu n)
-pdu-puts xs at n {len} {place} a b e f h k =
+    → ws ≡ withOctets xs at (front n)
+front-puts xs at n {len} {place} a b e f h k =
     let i = n .identity .«entity_length» in
     let q = n .identity .«number_length» in
     let hd = headerOctets (n .form) i q len in
@@ -121,4 +126,24 @@ pdu-puts xs at n {len} {place} a b e f h k =
     let li = length-identity (n .identity) in
     let l : length (hd ++ id) ≡ 4 + (2 * i + q) = length-append hd id ∙ omega arith in
     let t = over-then xs at place (hd ++ id) (dataField n) (over-then xs at (at + 4) hd id e f (omega arith) (omega arith)) h (omega arith) (omega arith) in
-    t ∙ rw (pdu-front n, a, append-assoc (headerOctets (n .form) i q (length (dataField n))))
+    t ∙ rw (a, append-assoc (headerOctets (n .form) i q (length (dataField n) + trailerLength (n .form))))
+
+-- the octets that were put at a place
+taken-back : (xs os : List ℕ) (at : ℕ) → at + length os ≤ length xs → take (length os) (drop at (withOctets xs at os)) ≡ os
+unfolding withOctets
+taken-back xs os at h =
+    let d = drop (at + length os) xs in
+    rw (append-assoc (take at xs), drop-at (take at xs) (os ++ d) at (length-take-le at xs (omega arith)), take-at os d (length os) refl)
+
+-- the front, and behind it the trailer of what stands there
+pub pdu-puts : (xs : List ℕ) (at : ℕ) (n : Nak) {to : ℕ} {ys zs : List ℕ}
+    → to ≡ at + length (front n)
+    → ys ≡ withOctets xs at (front n)
+    → zs ≡ withOctets ys to (trailer (n .form) (take (to - at) (drop at ys)))
+    → at + length (front n) ≤ length xs
+    → zs ≡ withOctets xs at (pdu n)
+pdu-puts xs at n {to} {ys} {zs} a b c k =
+    let l : to - at ≡ length (front n) = omega arith in
+    let e : take (to - at) (drop at ys) ≡ front n = rw (l, b) (taken-back xs (front n) at k) in
+    let d : zs ≡ withOctets ys to (trailer (n .form) (front n)) = rw e at c in
+    over-then xs at to (front n) (trailer (n .form) (front n)) b d (sym a) (omega arith) ∙ ap (withOctets xs at) (sym (pdu-parts n))

@@ -8,7 +8,7 @@ use Rattle.octets.specs.declared.LargeFileFlag.the-variants.{Normal, Large}
 use Rattle.octets.specs.Flag.{fieldLength}
 use Rattle.nak.specs.declared.Form.{Form}
 use Rattle.nak.specs.declared.Identity.{Identity}
-use Rattle.nak.specs.Pdu.{Nak, pdu, headerLength, pduLength, perPdu}
+use Rattle.nak.specs.Pdu.{Nak, pdu, headerLength, trailerLength, pduLength, perPdu}
 use Rattle.nak.proofs.Parts.{length-of-pdu}
 
 -- F is 4 to 8
@@ -28,7 +28,7 @@ module _ (g : Form) (d : Identity) (p : ℕ) where
   f = fieldLength (g .flag)
 
   -- room for one request, in F
-  pub one-room : pduLength g d 2 ≤ p → h + 1 + 4 * f ≤ p
+  pub one-room : pduLength g d 2 ≤ p → h + 1 + 4 * f + trailerLength g ≤ p
   one-room k = let c = mul-comm f 4 in omega arith
 
   -- room for one request is room for k ≥ 1
@@ -41,7 +41,7 @@ module _ (g : Form) (d : Identity) (p : ℕ) where
       le-div-iff-mul-le z .1 (omega arith)
 
   pub per-high : perPdu g d p ≤ p
-  per-high = let q = div-le-self (p - h - 1 - 2 * f) (2 * f) in omega arith
+  per-high = let q = div-le-self (p - trailerLength g - h - 1 - 2 * f) (2 * f) in omega arith
 
 -- a PDU with at most k requests has at most P octets
 pub per-short : (n : Nak) (p : ℕ) → pduLength (n .form) (n .identity) 2 ≤ p → length (n .requests) ≤ perPdu (n .form) (n .identity) p → length (pdu n) ≤ p
@@ -53,6 +53,7 @@ per-short n p k u =
     let r = one-room (n .form) (n .identity) p k in
     let l = length-of-pdu n in
     let v : 2 * g * m ≤ 2 * g * e = mul-le-mul-left (2 * g) u in
-    let w : e * (2 * g) ≤ p - hd - 1 - 2 * g = div-mul-le-self (p - hd - 1 - 2 * g) (2 * g) in
+    let t : ℕ = trailerLength (n .form) in
+    let w : e * (2 * g) ≤ p - t - hd - 1 - 2 * g = div-mul-le-self (p - t - hd - 1 - 2 * g) (2 * g) in
     let c = mul-comm e (2 * g) in
     omega arith

@@ -1,6 +1,6 @@
--- The NAK PDU as a list of octets (document 01, "The NAK PDU"; Blue Book, PDU header and 5.2.6).
+-- The NAK PDU as a list of octets (document 01, "The NAK PDU"; Blue Book, PDU header and 5.2.6; the trailer: document 02, C-11).
 use Prim.Native.Nat.{ℕ, _+_, _*_, _-_, _/_}
-use mathlib.Core.Bool.{Bool}
+use mathlib.Core.Bool.{Bool, cond}
 use mathlib.Core.List.{List, [], _∷_, _++_}
 use lib.ListN.{length}
 use lib.Dec.{ltb}
@@ -8,6 +8,7 @@ use Rattle.ranges.specs.Range.{Range, range}
 use Rattle.ranges.specs.Store.{flat}
 use Rattle.octets.specs.Octets.{field, fields}
 use Rattle.octets.specs.Flag.{fieldLength}
+use Rattle.crc.specs.Crc.{crcOf, trailer as crcTrailer}
 use Rattle.nak.specs.declared.Form.{Form}
 use Rattle.nak.specs.declared.Identity.{Identity}
 use Rattle.nak.specs.Header.{octet0, octet3}
@@ -35,13 +36,17 @@ dataOctets f scope rs = field 1 nakCode ++ fields f (scope .start ∷ scope .end
 abbrev pub dataField : Nak → List ℕ
 dataField n = dataOctets (fieldLength (n .form .flag)) (n .scope) (n .requests)
 
--- The header's first four octets: octet 0; octets 1 and 2, the data field length; octet 3.
+-- The octets of the trailer: two where the form has a CRC.
+abbrev pub trailerLength : Form → ℕ
+trailerLength g = cond (g .crc) 2 0
+
+-- The header's first four octets: octet 0; octets 1 and 2, the data field length, which counts the trailer; octet 3.
 unfoldable pub headerOctets : Form → ℕ → ℕ → ℕ → List ℕ
 headerOctets g i q len = field 1 (octet0 g) ++ (field 2 len ++ field 1 (octet3 i q))
 
 -- The same of a NAK.
 abbrev pub header : Nak → List ℕ
-header n = headerOctets (n .form) (n .identity .«entity_length») (n .identity .«number_length») (length (dataField n))
+header n = headerOctets (n .form) (n .identity .«entity_length») (n .identity .«number_length») (length (dataField n) + trailerLength (n .form))
 
 -- Then source entity, sequence number, destination entity, of I, Q and I octets.
 unfoldable pub identityOctets : Identity → List ℕ
@@ -55,13 +60,13 @@ headerLength i q = 4 + 2 * i + q
 abbrev pub dataLength : ℕ → ℕ → ℕ
 dataLength f numbers = 1 + f * (2 + numbers)
 
--- And the PDU: the header, then the data field. By `pdu-length` that is the number of its octets.
+-- And the PDU: the header, then the data field, then the trailer. By `pdu-length` that is the number of its octets.
 abbrev pub pduLength : Form → Identity → ℕ → ℕ
-pduLength g d numbers = headerLength (d .«entity_length») (d .«number_length») + dataLength (fieldLength (g .flag)) numbers
+pduLength g d numbers = headerLength (d .«entity_length») (d .«number_length») + dataLength (fieldLength (g .flag)) numbers + trailerLength g
 
--- Requests per PDU: k = (P − H − 1 − 2F) / 2F rounded down, P the largest PDU.
+-- Requests per PDU: k = (P − H − 1 − 2F) / 2F rounded down, P the largest PDU; with a trailer, P loses two octets to it.
 abbrev pub perPdu : Form → Identity → ℕ → ℕ
-perPdu g d largest = (largest - headerLength (d .«entity_length») (d .«number_length») - 1 - 2 * fieldLength (g .flag)) / (2 * fieldLength (g .flag))
+perPdu g d largest = (largest - trailerLength g - headerLength (d .«entity_length») (d .«number_length») - 1 - 2 * fieldLength (g .flag)) / (2 * fieldLength (g .flag))
 
 -- P below room for one request, which has two numbers.
 abbrev pub isTooSmall : Form → Identity → ℕ → Bool
@@ -71,9 +76,9 @@ isTooSmall g d largest = ltb largest (pduLength g d 2)
 abbrev pub front : Nak → List ℕ
 front n = header n ++ (identityOctets (n .identity) ++ dataField n)
 
--- The trailer of a PDU of this form, by the octets in front of it: there is none.
+-- The trailer of a PDU of this form: the CRC of the octets in front of it, from octet 0 on.
 abbrev pub trailer : Form → List ℕ → List ℕ
-trailer g os = []
+trailer g os = cond (g .crc) (crcTrailer (crcOf os)) []
 
 -- The PDU: header, identity, data field, trailer.
 unfoldable pub pdu : Nak → List ℕ

@@ -3,6 +3,7 @@ use octets::LargeFileFlag;
 ghost use mathlib.Core.Path.{_≡_};
 ghost use Rattle.octets.specs.Flag.{fieldLength, largestOf};
 ghost use Rattle.nak.specs.Header.{isReservedSet};
+ghost use Rattle.nak.specs.Pdu.{trailerLength};
 
 pub mod inner;
 pub mod writer;
@@ -20,10 +21,11 @@ pub enum Edition {
     Newer,
 }
 
-// What a link fixes about the shape of a PDU: its edition, and whether its numbers have four octets or eight.
+// What fixes the shape of a PDU: the link's edition, whether its numbers have four octets or eight, and whether it ends in a CRC.
 pub struct Form {
     pub edition: Edition,
     pub flag: LargeFileFlag,
+    pub crc: bool,
 }
 
 impl Form {
@@ -41,6 +43,13 @@ impl Form {
     {
         let flag = self.flag;
         flag.largest()
+    }
+
+    // The octets of the trailer.
+    pub fn trailer_length(self) -> usize
+        ensures { λ r. ⌜ r ≡ trailerLength self ⌝ }
+    {
+        if self.crc { 2 } else { 0 }
     }
 
     // 15: whether the reserved bit of the older edition would be set.

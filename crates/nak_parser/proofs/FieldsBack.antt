@@ -1,13 +1,13 @@
 -- Reading a PDU: each field that was written comes back.
 use mathlib.Core.Path.{_≡_, refl, sym, ap, _∙_}
-use mathlib.Core.Bool.{true, false, not, true≢false}
+use mathlib.Core.Bool.{Bool, true, false, _&&_, not, true≢false}
 use mathlib.Core.List.{List, [], _∷_, _++_, append-assoc}
 use Prim.Native.Nat.{ℕ, _+_, _*_, _-_, _/_, _%_, _^_, _≤_, _<_}
 use native.Mathlib.Omega.{arith}
 use lib.Dec.{ltb, eqb}
-use lib.ListN.{length, getD, drop, length-append}
+use lib.ListN.{length, getD, take, drop, length-append}
 use lib.Seq.{take-at, drop-at, getD-at}
-use borrow.Author.Tests.{ltb-false, le-ltb, eq-eqb, ne-eqb}
+use borrow.Author.Tests.{ltb-false, le-ltb, eq-eqb}
 use Rattle.ranges.proofs.Test.{or-false}
 use Rattle.ranges.proofs.Flat.{length-flat}
 use Rattle.ranges.specs.Range.{Range}
@@ -17,17 +17,19 @@ use Rattle.octets.specs.Octets.{field, fields, number}
 use Rattle.octets.specs.Flag.{fieldLength, largestOf}
 use Rattle.octets.specs.declared.LargeFileFlag.{LargeFileFlag}
 use Rattle.octets.specs.declared.LargeFileFlag.the-variants.{Normal, Large}
-use Rattle.octets.proofs.Fields.{length-field, got-put}
+use Rattle.octets.proofs.Fields.{length-field, length-fields, got-put}
 use Rattle.octets.proofs.Largest.{largest-fits}
 use Rattle.nak.specs.declared.Edition.{Edition}
 use Rattle.nak.specs.declared.Edition.the-variants.{Older, Newer}
 use Rattle.nak.specs.declared.Form.{Form}
-use Rattle.nak.specs.Header.{wrongFixed, fixed0, flagBit, octet0, octet3, isReservedSet, flagOf}
-use Rattle.nak.specs.Pdu.{Nak, nakCode, headerOctets, identityOctets, dataOctets, header, dataField, pdu}
+use Rattle.nak.specs.Header.{wrongFixed, fixed0, crcBit, flagBit, octet0, octet3, isReservedSet, flagOf, crcFlagOf}
+use Rattle.nak.specs.Pdu.{Nak, nakCode, headerOctets, identityOctets, dataOctets, header, dataField, trailerLength, front, trailer, pdu}
 use Rattle.nak.specs.Inner.{GoodLengths}
-use Rattle.nak.proofs.Parts.{length-header, length-data, pdu-front, length-pdu}
+use Rattle.nak.proofs.Parts.{length-header, length-data, pdu-parts, length-trailer, length-front, length-pdu}
+use Rattle.crc.specs.Damage.{endsInCrc}
+use Rattle.crc.proofs.Ends.{ends-tested}
 use Rattle.nak.proofs.Checks.{good-lengths, GoodNumbers, good-numbers, NakFine}
-use Rattle.nak_parser.specs.Parser.{octetAt, fieldAt, packetFlag, packetForm, fieldLengthIn, entityLengthIn, numberLengthIn, headerLengthIn, lengthField, scopeAt, requestsAt, requestsIn, packetIdentity, scopeIn, packetRequests, nakIn, wrongLength, wrongData, readOutcome}
+use Rattle.nak_parser.specs.Parser.{octetAt, fieldAt, packetFlag, packetCrc, trailerIn, packetForm, fieldLengthIn, entityLengthIn, numberLengthIn, headerLengthIn, lengthField, scopeAt, requestsAt, requestsEnd, requestsIn, packetIdentity, scopeIn, packetRequests, nakIn, wrongLength, wrongTrailer, wrongData, readOutcome}
 use Rattle.nak_parser.proofs.Reading.{header-is, Shape, shape-of, read-fine}
 
 -- the number of a field that stands behind x
@@ -45,33 +47,45 @@ below-top g v vs e =
     (largest-fits g v (ltb-false (largestOf g) v (t .0)), t .1)
 
 -- the requests come back from their octets
-pub requests-back : (g : LargeFileFlag) (rs : List Range) → anyAbove (largestOf g) (flat rs) ≡ false → requestsIn (fieldLength g) (length rs) (fields (fieldLength g) (flat rs)) ≡ rs
-requests-back g [] h = refl
-requests-back g (r ∷ rs) h =
+pub requests-back : (g : LargeFileFlag) (rs : List Range) (t : List ℕ) → anyAbove (largestOf g) (flat rs) ≡ false
+    → requestsIn (fieldLength g) (length rs) (fields (fieldLength g) (flat rs) ++ t) ≡ rs
+requests-back g [] t h = refl
+requests-back g (r ∷ rs) t h =
     let f = fieldLength g in
     let a = below-top g (r .start) (r .end ∷ flat rs) h in
     let b = below-top g (r .end) (flat rs) (a .1) in
     let s = field f (r .start) in
     let e = field f (r .end) in
-    let z = fields f (flat rs) in
+    let z = fields f (flat rs) ++ t in
     let ls = length-field f (r .start) in
     let le = length-field f (r .end) in
     let l : length (s ++ e) ≡ 2 * f = length-append s e ∙ omega arith in
     let x : fieldAt (s ++ (e ++ z)) 0 f ≡ r .start = field-back [] (e ++ z) 0 f (r .start) refl refl (a .0) in
     let y : fieldAt (s ++ (e ++ z)) f f ≡ r .end = field-back s z f f (r .end) refl ls (b .0) in
     let w : drop (2 * f) (s ++ (e ++ z)) ≡ z = rest-back (s ++ e) z (2 * f) (sym (append-assoc s e z)) l in
-    rw (x, y, w, requests-back g rs (b .1))
+    let q : fields f (flat (r ∷ rs)) ++ t ≡ s ++ (e ++ z) = append-assoc s (e ++ fields f (flat rs)) t ∙ ap (λ (l : List ℕ). s ++ l) (append-assoc e (fields f (flat rs)) t) in
+    rw (q, x, y, w, requests-back g rs t (b .1))
 
-flag-of : (e : Edition) (f : LargeFileFlag) → flagOf ((fixed0 e + flagBit f) % 256) ≡ f
-flag-of Older Normal = refl
-flag-of Older Large = refl
-flag-of Newer Normal = refl
-flag-of Newer Large = refl
+flags-of : (e : Edition) (c : Bool) (f : LargeFileFlag)
+    → (flagOf ((fixed0 e + crcBit c * 2 + flagBit f) % 256) ≡ f) × (crcFlagOf ((fixed0 e + crcBit c * 2 + flagBit f) % 256) ≡ c)
+flags-of Older false Normal = (refl, refl)
+flags-of Older false Large = (refl, refl)
+flags-of Older true Normal = (refl, refl)
+flags-of Older true Large = (refl, refl)
+flags-of Newer false Normal = (refl, refl)
+flags-of Newer false Large = (refl, refl)
+flags-of Newer true Normal = (refl, refl)
+flags-of Newer true Large = (refl, refl)
 
 -- how many requests there are room for
 count-is : (g : LargeFileFlag) (h k : ℕ) → (h + (1 + fieldLength g * (2 + 2 * k)) - (h + 1 + 2 * fieldLength g)) / (2 * fieldLength g) ≡ k
 count-is Normal h k = omega arith
 count-is Large h k = omega arith
+
+-- and how many octets they have
+span-is : (g : LargeFileFlag) (h k : ℕ) → h + (1 + fieldLength g * (2 + 2 * k)) - (h + 1 + 2 * fieldLength g) ≡ fieldLength g * (2 * k)
+span-is Normal h k = omega arith
+span-is Large h k = omega arith
 
 whole-is : (g : LargeFileFlag) (k : ℕ) → (1 + fieldLength g * (2 + 2 * k) - (1 + 2 * fieldLength g)) % (2 * fieldLength g) ≡ 0
 whole-is Normal k = omega arith
@@ -84,16 +98,20 @@ room-is Large k = omega arith
 fixed-right : (g : Form) (i q : ℕ) → isReservedSet (g .edition) (g .flag) ≡ false → 1 ≤ i → i ≤ 8 → 1 ≤ q → q ≤ 8
     → wrongFixed (g .edition) (octet0 g % 256) (octet3 i q % 256) ≡ false
 unfolding wrongFixed
-fixed-right g i q r a b c d = go (g .edition) (g .flag) r
+fixed-right g i q r a b c d = go (g .edition) (g .crc) (g .flag) r
   where
     lengths-right : eqb (octet3 i q % 256 / 128 * 128 + octet3 i q % 256 / 8 % 2 * 8) 0 ≡ true
     lengths-right = eq-eqb (octet3 i q % 256 / 128 * 128 + octet3 i q % 256 / 8 % 2 * 8) 0 (omega arith)
 
-    go : (e : Edition) (f : LargeFileFlag) → isReservedSet e f ≡ false → wrongFixed e ((fixed0 e + flagBit f) % 256) (octet3 i q % 256) ≡ false
-    go Older Normal h = rw lengths-right
-    go Older Large h = absurd (true≢false h)
-    go Newer Normal h = rw lengths-right
-    go Newer Large h = rw lengths-right
+    go : (e : Edition) (c : Bool) (f : LargeFileFlag) → isReservedSet e f ≡ false
+        → wrongFixed e ((fixed0 e + crcBit c * 2 + flagBit f) % 256) (octet3 i q % 256) ≡ false
+    go Older c Large h = absurd (true≢false h)
+    go Older true Normal h = rw lengths-right
+    go Older false Normal h = rw lengths-right
+    go Newer true Normal h = rw lengths-right
+    go Newer false Normal h = rw lengths-right
+    go Newer true Large h = rw lengths-right
+    go Newer false Large h = rw lengths-right
 
 module _ (n : Nak) (fine : NakFine n) where
   lengths : GoodLengths (n .identity)
@@ -104,10 +122,18 @@ module _ (n : Nak) (fine : NakFine n) where
 
   flag-back : packetFlag (pdu n) ≡ n .form .flag
   unfolding packetFlag pdu headerOctets
-  flag-back = flag-of edition (n .form .flag)
+  flag-back = flags-of edition (n .form .crc) (n .form .flag) .0
+
+  crc-back : packetCrc (pdu n) ≡ n .form .crc
+  unfolding packetCrc pdu headerOctets
+  crc-back = flags-of edition (n .form .crc) (n .form .flag) .1
+
+  trailer-back : trailerIn (pdu n) ≡ trailerLength (n .form)
+  unfolding trailerIn
+  trailer-back = rw crc-back
 
   pub form-back : packetForm edition (pdu n) ≡ n .form
-  form-back = rw flag-back
+  form-back = rw (flag-back, crc-back)
 
   pub field-length-back : fieldLengthIn (pdu n) ≡ fieldLength (n .form .flag)
   unfolding fieldLengthIn
@@ -124,12 +150,12 @@ module _ (n : Nak) (fine : NakFine n) where
   pub header-length-back : headerLengthIn (pdu n) ≡ 4 + 2 * (n .identity .«entity_length») + n .identity .«number_length»
   header-length-back = header-is (pdu n) ∙ rw (entity-length-back, number-length-back)
 
-  data-high : length (dataField n) < 65536
+  data-high : length (dataField n) + trailerLength (n .form) < 65536
   data-high = let s = fine .size in let l = length-pdu n in omega arith
 
-  pub length-field-back : lengthField (pdu n) ≡ length (dataField n)
+  pub length-field-back : lengthField (pdu n) ≡ length (dataField n) + trailerLength (n .form)
   unfolding lengthField pdu headerOctets
-  length-field-back = got-put 2 (length (dataField n)) (let h = data-high in omega arith)
+  length-field-back = got-put 2 (length (dataField n) + trailerLength (n .form)) (let h = data-high in omega arith)
 
   -- the parts of the PDU
   so : List ℕ
@@ -147,12 +173,13 @@ module _ (n : Nak) (fine : NakFine n) where
   en : List ℕ
   en = field (fieldLength (n .form .flag)) (n .scope .end)
 
+  -- the requests, and behind them the trailer
   re : List ℕ
-  re = fields (fieldLength (n .form .flag)) (flat (n .requests))
+  re = fields (fieldLength (n .form .flag)) (flat (n .requests)) ++ trailer (n .form) (front n)
 
   whole : pdu n ≡ header n ++ (so ++ (nu ++ (de ++ (field 1 nakCode ++ (st ++ (en ++ re))))))
   unfolding identityOctets dataOctets so nu de st en re
-  whole = pdu-front n ∙ simp append-assoc
+  whole = pdu-parts n ∙ simp append-assoc
 
   numbers : GoodNumbers (n .identity)
   numbers = good-numbers (n .identity) (fine .identity)
@@ -236,26 +263,40 @@ module _ (n : Nak) (fine : NakFine n) where
   unfolding requestsAt scopeAt
   requests-at-back = rw field-length-back
 
-  pub rest : drop (requestsAt (pdu n)) (pdu n) ≡ fields (fieldLength (n .form .flag)) (flat (n .requests))
+  rest : drop (requestsAt (pdu n)) (pdu n) ≡ fields (fieldLength (n .form .flag)) (flat (n .requests)) ++ trailer (n .form) (front n)
   unfolding re
   rest = rest-back (header n ++ so ++ nu ++ de ++ field 1 nakCode ++ st ++ en) re _ (whole ∙ simp append-assoc) (before6 ∙ sym requests-at-back)
 
   data-length : length (dataField n) ≡ 1 + fieldLength (n .form .flag) * (2 + 2 * length (n .requests))
   data-length = length-data (fieldLength (n .form .flag)) (n .scope) (n .requests) ∙ rw (length-flat (n .requests))
 
-  total : length (pdu n) ≡ headerLengthIn (pdu n) + (1 + fieldLength (n .form .flag) * (2 + 2 * length (n .requests)))
+  total : length (pdu n) ≡ headerLengthIn (pdu n) + (1 + fieldLength (n .form .flag) * (2 + 2 * length (n .requests))) + trailerLength (n .form)
   total = length-pdu n ∙ rw (header-length-back, data-length)
+
+  end-of-requests : requestsEnd (pdu n) ≡ headerLengthIn (pdu n) + (1 + fieldLength (n .form .flag) * (2 + 2 * length (n .requests)))
+  unfolding requestsEnd
+  end-of-requests = omega (arith, total, trailer-back)
+
+  -- the part that holds the requests
+  pub part-back : take (requestsEnd (pdu n) - requestsAt (pdu n)) (drop (requestsAt (pdu n)) (pdu n)) ≡ fields (fieldLength (n .form .flag)) (flat (n .requests))
+  part-back =
+      let f = fieldLength (n .form .flag) in
+      let os = fields f (flat (n .requests)) in
+      let l : length os ≡ requestsEnd (pdu n) - requestsAt (pdu n) =
+      length-fields f (flat (n .requests)) ∙ rw (length-flat (n .requests), requests-at-back, end-of-requests, span-is (n .form .flag) (headerLengthIn (pdu n)) (length (n .requests)))
+      in
+      rw rest (take-at os (trailer (n .form) (front n)) _ l)
 
   pub requests-of-back : packetRequests (pdu n) ≡ n .requests
   unfolding packetRequests
   requests-of-back =
       let a = below-top (n .form .flag) (n .scope .start) (n .scope .end ∷ flat (n .requests)) (fine .numbers) in
       let b = below-top (n .form .flag) (n .scope .end) (flat (n .requests)) (a .1) in
-      rw (rest, requests-at-back, field-length-back, total, count-is (n .form .flag) (headerLengthIn (pdu n)) (length (n .requests))) (requests-back (n .form .flag) (n .requests) (b .1))
+      rw (rest, requests-at-back, field-length-back, end-of-requests, count-is (n .form .flag) (headerLengthIn (pdu n)) (length (n .requests))) (requests-back (n .form .flag) (n .requests) (trailer (n .form) (front n)) (b .1))
 
   -- reading what was written gives back every field, the requests in order and the form included
   pub nak-back : nakIn edition (pdu n) ≡ n
-  nak-back = rw (flag-back, identity-back, scope-back, requests-of-back)
+  nak-back = rw (flag-back, crc-back, identity-back, scope-back, requests-of-back)
 
   fixed-back : wrongFixed edition (octetAt (pdu n) 0) (octetAt (pdu n) 3) ≡ false
   unfolding pdu headerOctets
@@ -267,17 +308,32 @@ module _ (n : Nak) (fine : NakFine n) where
       let l = length-field-back in
       let d = data-length in
       let t = total in
-      rw (ne-eqb (lengthField (pdu n)) 0 (λ z. omega arith), eq-eqb (length (pdu n)) (headerLengthIn (pdu n) + lengthField (pdu n)) (omega arith))
+      let r = trailer-back in
+      rw (le-ltb (lengthField (pdu n)) (1 + trailerIn (pdu n)) (omega arith), eq-eqb (length (pdu n)) (headerLengthIn (pdu n) + lengthField (pdu n)) (omega arith))
 
   right-data-back : wrongData (pdu n) ≡ false
   unfolding wrongData
-  right-data-back = rw (length-field-back, data-length, field-length-back, le-ltb _ _ (room-is (n .form .flag) (length (n .requests))), whole-is (n .form .flag) (length (n .requests)))
+  right-data-back =
+      let w : length (dataField n) + trailerLength (n .form) - trailerLength (n .form) ≡ length (dataField n) = omega arith in
+      rw (length-field-back, trailer-back, w, data-length, field-length-back, le-ltb _ _ (room-is (n .form .flag) (length (n .requests))), whole-is (n .form .flag) (length (n .requests)))
+
+  -- the trailer that is written is the one that reading asks for
+  ends-back : n .form .crc ≡ true → endsInCrc (pdu n) ≡ true
+  ends-back e = ends-tested (pdu n) (front n, pdu-parts n ∙ rw e)
+
+  right-trailer-back : wrongTrailer (pdu n) ≡ false
+  unfolding wrongTrailer
+  right-trailer-back = rw crc-back (go (n .form .crc) refl)
+    where
+      go : (t : Bool) → n .form .crc ≡ t → (t && not (endsInCrc (pdu n))) ≡ false
+      go true e = rw (ends-back e)
+      go false e = refl
 
   pub shape-back : Shape edition (pdu n)
   shape-back =
       let enough = le-ltb (length (pdu n)) 4 (let l = length-pdu n in omega arith) in
       let code = ap not (eq-eqb (octetAt (pdu n) (headerLengthIn (pdu n))) nakCode code-back) in
-      shape-of edition (pdu n) (enough, (fixed-back, (right-length-back, (code, (right-data-back, tt)))))
+      shape-of edition (pdu n) (enough, (fixed-back, (right-length-back, (right-trailer-back, (code, (right-data-back, tt))))))
 
   -- every PDU of fields within the limits is accepted
   pub read-back : readOutcome edition (pdu n) ≡ accepted []

@@ -5,4 +5,5 @@ pub mod FieldsBack
 pub mod OctetsBack
 pub mod Stepping
 pub mod Editions
+pub mod Damage
 pub mod RoundTrip

@@ -5,8 +5,7 @@ use mathlib.Core.List.{List, []}
 use Prim.Native.Nat.{ℕ, _*_, _-_, _≤_, _<_}
 use native.Mathlib.Omega.{arith}
 use lib.Dec.{eqb}
-use lib.ListN.{length, take, drop, length-drop}
-use lib.Seq.{take-all}
+use lib.ListN.{length, take, drop}
 use borrow.Author.Tests.{eqb-true, eqb-false, ne-eqb, lt-ltb}
 use Rattle.outcomes.specs.Outcome.{accepted, lent}
 use Rattle.ranges.specs.Range.{Range, range}
@@ -18,8 +17,9 @@ use Rattle.outcomes.specs.declared.Refusal.the-variants as refusal
 use Rattle.outcomes.specs.Refusal.{refusing}
 use Rattle.outcomes.specs.declared.Refusal.{Refusal}
 use Rattle.outcomes.proofs.Refusals.{refuses}
-use Rattle.nak_parser.specs.Parser.{packetForm, fieldLengthIn, packetIdentity, scopeIn, scopeAt, requestsAt, readOutcome, acceptedParsed, refusedParsed, parsedOf, requestsPart}
-use Rattle.nak_parser.proofs.Reading.{Read, read-of}
+use Rattle.nak_parser.specs.Parser.{packetForm, fieldLengthIn, packetIdentity, scopeIn, requestsAt, requestsEnd, readOutcome, acceptedParsed, refusedParsed, parsedOf, requestsPart}
+use Rattle.nak_parser.proofs.Reading.{read-of}
+use Rattle.nak_parser.proofs.OctetsBack.{requests-in}
 
 -- an accepted packet of this identity, form and scope, its requests from here to there
 abbrev pub parsedWith : Identity → Form → Range → ℕ → ℕ → Parsed
@@ -57,22 +57,18 @@ short v p h = rw (lt-ltb (length p) 4 h)
 
 -- the values that the code finds are those of the definition
 pub is-parsed :
-    (v : Edition) (p : List ℕ) {d : Identity} {g : Form} {a b from : ℕ}
+    (v : Edition) (p : List ℕ) {d : Identity} {g : Form} {a b from to : ℕ}
     → d ≡ packetIdentity p
     → g ≡ packetForm v p
     → range a b ≡ scopeIn p
     → from ≡ requestsAt p
-    → parsedWith d g (range a b) from (length p) ≡ acceptedParsed v p
+    → to ≡ requestsEnd p
+    → parsedWith d g (range a b) from to ≡ acceptedParsed v p
 unfolding acceptedParsed
-is-parsed v p d g s f =
+is-parsed v p d g s f e =
     let start = ap (λ (r : Range). r .start) s in
     let end = ap (λ (r : Range). r .end) s in
-    rw (d, g, start, end, f)
-
--- the requests of an accepted packet start in it
-pub requests-in : (v : Edition) (p : List ℕ) → Read v p → requestsAt p ≤ length p
-unfolding requestsAt scopeAt
-requests-in v p r = let s = r .shape in omega arith
+    rw (d, g, start, end, f, e)
 
 -- where the part of the requests starts and ends
 pub record Part (v : Edition) (p : List ℕ) : Type 0 where
@@ -87,15 +83,8 @@ unfolding acceptedParsed
 part-if v p true e =
     let r = read-of v p (eqb-true (readOutcome v p .number) 0 e) in
     let a = parsed-accepted v p (r .outcome) in
-    let d = length-drop (requestsAt p) p in
     let i = requests-in v p r in
-    record {
-      from = rw (a, e);
-      next = rw (a, e);
-      ordered = rw a i;
-      inside = rw a (omega arith);
-      octets = rw (a, e) (take-all (length p - requestsAt p) (drop (requestsAt p) p) (omega arith));
-    }
+    record { from = rw (a, e); next = rw (a, e); ordered = rw a (i .0); inside = rw a (i .1); octets = rw (a, e) }
 part-if v p false e =
     let a = parsed-refused v p (eqb-false (readOutcome v p .number) 0 e) in
     record { from = rw (a, e); next = rw (a, e); ordered = rw a (omega arith); inside = rw a (omega arith); octets = rw (a, e) }

@@ -1,13 +1,13 @@
 -- What the checks of reading show: those of the shape, and of a packet that is accepted.
 use mathlib.Core.Path.{_≡_, refl, _∙_}
-use mathlib.Core.Bool.{false}
+use mathlib.Core.Bool.{Bool, true, false, cond}
 use mathlib.Core.List.{List, [], _∷_, _++_}
 use Prim.Native.Nat.{ℕ, _+_, _*_, _-_, _/_, _%_, _≤_, _<_}
 use native.Mathlib.Omega.{arith}
 use lib.Dec.{eqb, ltb}
 use lib.ListN.{length, take, drop, length-drop}
 use lib.Seq.{length-take-le}
-use borrow.Author.Tests.{eqb-true, eqb-false, ltb-false, le-ltb, eq-eqb, not-false}
+use borrow.Author.Tests.{eqb-true, ltb-false, le-ltb, eq-eqb, not-false}
 use Rattle.ranges.proofs.Test.{or-false}
 use Rattle.ranges.specs.Range.{range}
 use Rattle.outcomes.specs.Outcome.{accepted}
@@ -24,8 +24,8 @@ use Rattle.nak.specs.Pdu.{nakCode}
 use Rattle.nak.specs.Request.{requestsChecks}
 use Rattle.nak.specs.Writer.{largestPdu}
 use Rattle.nak.proofs.Checks.{none-append}
-use Rattle.nak_parser.specs.Parser.{octetAt, fieldAt, packetFlag, fieldLengthIn, entityLengthIn, numberLengthIn, headerLengthIn, lengthField}
-use Rattle.nak_parser.specs.Parser.{scopeAt, behindScope, requestsAt, requestsIn, packetIdentity, scopeIn, packetRequests, isWrongLength, wrongLength, isWrongData, wrongData, shapeChecks, readChecks, readOutcome}
+use Rattle.nak_parser.specs.Parser.{octetAt, fieldAt, packetFlag, packetCrc, trailerIn, fieldLengthIn, entityLengthIn, numberLengthIn, headerLengthIn, lengthField}
+use Rattle.nak_parser.specs.Parser.{scopeAt, behindScope, requestsAt, requestsEnd, requestsIn, packetIdentity, scopeIn, packetRequests, isWrongLength, wrongLength, wrongTrailer, isWrongData, wrongData, shapeChecks, readChecks, readOutcome}
 
 -- an identity of these lengths and numbers
 abbrev pub identityOf : ℕ → ℕ → ℕ → ℕ → ℕ → Identity
@@ -41,9 +41,10 @@ module _ (p : List ℕ) where
   unfolding requestsAt scopeAt
   is-place h f = rw (h, f)
 
-  pub is-requests : {at f : ℕ} → at ≡ requestsAt p → f ≡ fieldLengthIn p → requestsIn f ((length p - at) / (2 * f)) (drop at p) ≡ packetRequests p
+  pub is-requests : {at to f : ℕ} → at ≡ requestsAt p → to ≡ requestsEnd p → f ≡ fieldLengthIn p
+      → requestsIn f ((to - at) / (2 * f)) (drop at p) ≡ packetRequests p
   unfolding packetRequests
-  is-requests a f = rw (a, f)
+  is-requests a e f = rw (a, e, f)
 
   pub is-identity :
       {i q source number destination : ℕ}
@@ -56,13 +57,30 @@ module _ (p : List ℕ) where
   unfolding packetIdentity
   is-identity i q s n d = rw (s, n, d, i, q)
 
-  pub is-length : {h len : ℕ} → h ≡ headerLengthIn p → len ≡ lengthField p → isWrongLength (length p) h len ≡ wrongLength p
+  pub is-length : {h len t : ℕ} → h ≡ headerLengthIn p → len ≡ lengthField p → t ≡ trailerIn p → isWrongLength (length p) h len t ≡ wrongLength p
   unfolding wrongLength
-  is-length h l = rw (h, l)
+  is-length h l t = rw (h, l, t)
 
-  pub is-data : {len f : ℕ} → len ≡ lengthField p → f ≡ fieldLengthIn p → isWrongData len f ≡ wrongData p
+  pub is-data : {len t f : ℕ} → len ≡ lengthField p → t ≡ trailerIn p → f ≡ fieldLengthIn p → isWrongData (len - t) f ≡ wrongData p
   unfolding wrongData
-  is-data l f = rw (l, f)
+  is-data l t f = rw (l, t, f)
+
+  pub is-end : {t : ℕ} → t ≡ trailerIn p → length p - t ≡ requestsEnd p
+  unfolding requestsEnd
+  is-end t = rw t
+
+  pub end-high : requestsEnd p ≤ length p
+  unfolding requestsEnd
+  end-high = omega arith
+
+  -- the trailer has two octets or none
+  pub trailer-high : trailerIn p ≤ 2
+  unfolding trailerIn
+  trailer-high = go (packetCrc p)
+    where
+      go : (t : Bool) → cond t 2 0 ≤ 2
+      go true = omega arith
+      go false = omega arith
 
   -- bounds
   pub field-low : 4 ≤ fieldLengthIn p
@@ -105,40 +123,42 @@ module _ (p : List ℕ) where
       rw l at n
 
   -- what 16 leaves
-  pub right-length : wrongLength p ≡ false → (1 ≤ lengthField p) × (length p ≡ headerLengthIn p + lengthField p)
+  pub right-length : wrongLength p ≡ false → (1 + trailerIn p ≤ lengthField p) × (length p ≡ headerLengthIn p + lengthField p)
   unfolding wrongLength
   right-length e =
-      let t = or-false (eqb (lengthField p) 0) _ e in
-      let z = eqb-false (lengthField p) 0 (t .0) in
-      (omega arith, eqb-true (length p) (headerLengthIn p + lengthField p) (not-false _ (t .1)))
+      let t = or-false (ltb (lengthField p) (1 + trailerIn p)) _ e in
+      (ltb-false (lengthField p) (1 + trailerIn p) (t .0), eqb-true (length p) (headerLengthIn p + lengthField p) (not-false _ (t .1)))
 
-  pub right-data : wrongData p ≡ false → (1 + 2 * fieldLengthIn p ≤ lengthField p) × ((lengthField p - (1 + 2 * fieldLengthIn p)) % (2 * fieldLengthIn p) ≡ 0)
+  pub right-data : wrongData p ≡ false
+      → (1 + 2 * fieldLengthIn p ≤ lengthField p - trailerIn p) × ((lengthField p - trailerIn p - (1 + 2 * fieldLengthIn p)) % (2 * fieldLengthIn p) ≡ 0)
   unfolding wrongData
   right-data e =
-      let t = or-false (ltb (lengthField p) (1 + 2 * fieldLengthIn p)) _ e in
-      (ltb-false (lengthField p) (1 + 2 * fieldLengthIn p) (t .0), eqb-true _ 0 (not-false _ (t .1)))
+      let t = or-false (ltb (lengthField p - trailerIn p) (1 + 2 * fieldLengthIn p)) _ e in
+      (ltb-false (lengthField p - trailerIn p) (1 + 2 * fieldLengthIn p) (t .0), eqb-true _ 0 (not-false _ (t .1)))
 
 -- a packet whose shape is right
 pub record Shape (e : Edition) (p : List ℕ) : Type 0 where
   pub enough : 4 ≤ length p
   pub fixed : wrongFixed e (octetAt p 0) (octetAt p 3) ≡ false
-  pub some : 1 ≤ lengthField p
+  pub some : 1 + trailerIn p ≤ lengthField p
   pub total : length p ≡ headerLengthIn p + lengthField p
+  pub trailer : wrongTrailer p ≡ false
   pub code : octetAt p (headerLengthIn p) ≡ nakCode
-  pub room : 1 + 2 * fieldLengthIn p ≤ lengthField p
-  pub whole : (lengthField p - (1 + 2 * fieldLengthIn p)) % (2 * fieldLengthIn p) ≡ 0
+  pub room : 1 + 2 * fieldLengthIn p ≤ lengthField p - trailerIn p
+  pub whole : (lengthField p - trailerIn p - (1 + 2 * fieldLengthIn p)) % (2 * fieldLengthIn p) ≡ 0
   pub none : NoneOf (shapeChecks e p)
 
 pub shape-of : (e : Edition) (p : List ℕ) → NoneOf (shapeChecks e p) → Shape e p
 shape-of e p n =
     let total = right-length p (n .1 .1 .0) in
-    let field = right-data p (n .1 .1 .1 .1 .0) in
+    let field = right-data p (n .1 .1 .1 .1 .1 .0) in
     record {
       enough = ltb-false (length p) 4 (n .0);
       fixed = n .1 .0;
       some = total .0;
       total = total .1;
-      code = eqb-true (octetAt p (headerLengthIn p)) nakCode (not-false _ (n .1 .1 .1 .0));
+      trailer = n .1 .1 .1 .0;
+      code = eqb-true (octetAt p (headerLengthIn p)) nakCode (not-false _ (n .1 .1 .1 .1 .0));
       room = field .0;
       whole = field .1;
       none = n;

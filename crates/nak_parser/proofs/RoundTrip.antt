@@ -3,7 +3,7 @@
 use mathlib.Core.Path.{_≡_, refl, sym, ap, _∙_}
 use mathlib.Core.Bool.{false}
 use mathlib.Core.List.{List, [], _∷_}
-use Prim.Native.Nat.{ℕ, zero, suc, _+_, _*_, _-_, _/_, _%_, _^_, _<_}
+use Prim.Native.Nat.{ℕ, zero, suc, _+_, _*_, _-_, _/_, _%_, _^_, _≤_, _<_}
 use native.Mathlib.Nat.{suc-mul, div-le-self}
 use native.Mathlib.Omega.{arith}
 use lib.Dec.{ltb}
@@ -23,12 +23,12 @@ use Rattle.nak.specs.Inner.{GoodLengths}
 use Rattle.nak.specs.Writer.{isBadList, numbersOf, nakOutcome, writeOutcome, written}
 use Rattle.nak.proofs.Checks.{GoodNumbers, not-bad-identity, NakFine, nak-of, fine-nak, fine-write, write-accepted}
 use Rattle.nak_parser.specs.declared.Parsed.{Parsed}
-use Rattle.nak_parser.specs.Parser.{requestsPart, acceptedParsed, Says, packetFlag, fieldLengthIn, entityLengthIn, numberLengthIn, headerLengthIn, scopeAt, requestsAt, requestsIn, packetIdentity, scopeIn, packetRequests, nakIn, readOutcome}
+use Rattle.nak_parser.specs.Parser.{requestsPart, acceptedParsed, Says, packetFlag, fieldLengthIn, entityLengthIn, numberLengthIn, headerLengthIn, scopeAt, requestsAt, requestsEnd, requestsIn, packetIdentity, scopeIn, packetRequests, nakIn, readOutcome}
 use Rattle.nak_parser.proofs.Reading.{Read, read-of, header-is, entity-low, entity-high, number-low, number-high}
 use Rattle.nak_parser.proofs.Editions.{one-edition}
 use Rattle.nak_parser.proofs.ParsedOf.{parsed-accepted}
-use Rattle.nak_parser.proofs.FieldsBack.{nak-back, read-back, rest}
-use Rattle.nak_parser.proofs.OctetsBack.{part-low, f-is, requests-room, length-requests-in, reserved-in, pdu-forth}
+use Rattle.nak_parser.proofs.FieldsBack.{nak-back, read-back, part-back}
+use Rattle.nak_parser.proofs.OctetsBack.{part-low, f-is, countIn, requests-in, requests-hold, length-requests-in, reserved-in, pdu-forth}
 
 -- Reading what was written gives back every field, the requests in order and the flag included, for everything the writer accepts.
 pub read-written :
@@ -78,13 +78,14 @@ pdu-injective m n a b e =
 
 -- The part of a PDU that is handed back as its requests holds them, start and end, F octets each.
 pub part-written : (n : Nak) → nakOutcome n ≡ accepted [] → requestsPart (n .form .edition) (pdu n) ≡ fields (fieldLength (n .form .flag)) (flat (n .requests))
-part-written n e = rw (pdu-accepted n e) (rest n (nak-of n (ap (λ (o : Outcome). o .number) e)))
+part-written n e = rw (pdu-accepted n e) (part-back n (nak-of n (ap (λ (o : Outcome). o .number) e)))
 
 above-one : (g : LargeFileFlag) (v : ℕ) {f : ℕ} → f ≡ fieldLength g → v < 256 ^ f → ltb (largestOf g) v ≡ false
 above-one g v e h = le-ltb (largestOf g) v (fits-largest g v (rw e at h))
 
 -- numbers read from fields of the flag's length are not above its largest
-none-above : (g : LargeFileFlag) (k : ℕ) (os : List ℕ) → AllOctets os → length os ≡ k * (2 * fieldLength g) → anyAbove (largestOf g) (flat (requestsIn (fieldLength g) k os)) ≡ false
+none-above : (g : LargeFileFlag) (k : ℕ) (os : List ℕ) → AllOctets os → k * (2 * fieldLength g) ≤ length os
+    → anyAbove (largestOf g) (flat (requestsIn (fieldLength g) k os)) ≡ false
 none-above g zero os a h = refl
 none-above g (suc k) os a h =
     let f = fieldLength g in
@@ -115,8 +116,8 @@ module _ (v : Edition) (p : List ℕ) (a : AllOctets p) (r : Read v p) where
       let g = packetFlag p in
       let x = above-one g (scopeIn p .start) (f-is p) (part-low p (headerLengthIn p + 1) (fieldLengthIn p) a (omega arith)) in
       let y = above-one g (scopeIn p .end) (f-is p) (part-low p (headerLengthIn p + 1 + fieldLengthIn p) (fieldLengthIn p) a (omega arith)) in
-      let k = (length p - requestsAt p) / (2 * fieldLength g) in
-      let z = none-above g k (drop (requestsAt p) p) (octets-drop (requestsAt p) p a) (length-drop (requestsAt p) p ∙ rw (f-is p) at (requests-room v p r)) in
+      let k = (requestsEnd p - requestsAt p) / (2 * fieldLength g) in
+      let z = none-above g k (drop (requestsAt p) p) (octets-drop (requestsAt p) p a) (rw (f-is p) at (requests-hold v p r)) in
       rw (x, y, f-is p) z
 
   -- what an accepted packet says is within the limits
@@ -139,10 +140,11 @@ accepted-pdu v p a z = let r = read-of v p z in (pdu-forth v p a r, fine-nak (na
 good-requests : (v : Edition) (p : List ℕ) → Read v p → isBadList (flat (packetRequests p)) ≡ false
 unfolding isBadList packetRequests
 good-requests v p r =
-    let k = (length p - requestsAt p) / (2 * fieldLengthIn p) in
+    let k = countIn p in
     let l : length (flat (requestsIn (fieldLengthIn p) k (drop (requestsAt p) p))) ≡ 2 * k = length-flat (requestsIn (fieldLengthIn p) k (drop (requestsAt p) p)) ∙ rw (length-requests-in (fieldLengthIn p) k (drop (requestsAt p) p)) in
     let s = r .size in
-    let h = div-le-self (length p - requestsAt p) (2 * fieldLengthIn p) in
+    let i = requests-in v p r in
+    let h = div-le-self (requestsEnd p - requestsAt p) (2 * fieldLengthIn p) in
     rw (l, ne-eqb (2 * k % 2) 1 (λ z. omega arith), le-ltb 8192 (2 * k) (omega arith))
 
 -- Writing what was read gives back every octet, for everything the reader accepts: the writer, given what the packet says, its

@@ -2,7 +2,7 @@
 use mathlib.Core.Path.{_≡_, refl, sym, ap, _∙_}
 use mathlib.Core.Bool.{Bool, true, false}
 use mathlib.Core.List.{List, [], _∷_, _++_}
-use Prim.Native.Nat.{ℕ, zero, suc, _+_, _*_, _-_, _/_, _≤_, _<_}
+use Prim.Native.Nat.{ℕ, zero, suc, _+_, _*_, _-_, _≤_, _<_}
 use native.Mathlib.Nat.{suc-mul, suc-add, zero-add}
 use native.Mathlib.Omega.{arith}
 use lib.Dec.{eqb}
@@ -14,29 +14,30 @@ use Rattle.nak.specs.declared.Edition.{Edition}
 use Rattle.nak_parser.specs.declared.Found.{Found}
 use Rattle.nak_parser.specs.declared.Step.{Step}
 use Rattle.nak_parser.specs.declared.Step.the-variants.{Request, End}
-use Rattle.nak_parser.specs.Parser.{fieldLengthIn, requestsAt, requestsIn, packetRequests, readOutcome, parsedOf}
+use Rattle.nak_parser.specs.Parser.{fieldLengthIn, requestsAt, requestsEnd, requestsIn, packetRequests, readOutcome, parsedOf}
 use Rattle.nak_parser.specs.Step.{atEnd, stepOutcome, placeAfter, stepCase, steps, eachRequest, requestsGiven}
-use Rattle.nak_parser.proofs.Reading.{read-of, field-low}
+use Rattle.nak_parser.proofs.Reading.{read-of, field-low, end-high}
 use Rattle.nak_parser.proofs.ParsedOf.{part-of}
-use Rattle.nak_parser.proofs.OctetsBack.{requests-room, length-requests-in}
+use Rattle.nak_parser.proofs.OctetsBack.{countIn, requests-room, length-requests-in}
 
 -- a reader is at its end, or has a request left
-pub at-end : (p : List ℕ) (at : ℕ) → length p - at < 2 * fieldLengthIn p → atEnd p at ≡ true
+pub at-end : (p : List ℕ) (at : ℕ) → requestsEnd p - at < 2 * fieldLengthIn p → atEnd p at ≡ true
 unfolding atEnd
-at-end p at h = lt-ltb (length p - at) (2 * fieldLengthIn p) h
+at-end p at h = lt-ltb (requestsEnd p - at) (2 * fieldLengthIn p) h
 
-pub not-at-end : (p : List ℕ) (at : ℕ) → 2 * fieldLengthIn p ≤ length p - at → atEnd p at ≡ false
+pub not-at-end : (p : List ℕ) (at : ℕ) → 2 * fieldLengthIn p ≤ requestsEnd p - at → atEnd p at ≡ false
 unfolding atEnd
-not-at-end p at h = le-ltb (length p - at) (2 * fieldLengthIn p) h
+not-at-end p at h = le-ltb (requestsEnd p - at) (2 * fieldLengthIn p) h
 
 -- at its end a reader stays there
-pub ended : (p : List ℕ) (at k : ℕ) → length p - at < 2 * fieldLengthIn p → steps p at k ≡ replicate k (accepted [])
+pub ended : (p : List ℕ) (at k : ℕ) → requestsEnd p - at < 2 * fieldLengthIn p → steps p at k ≡ replicate k (accepted [])
 unfolding stepOutcome placeAfter
 ended p at zero h = refl
 ended p at (suc k) h = rw (at-end p at h, ended p at k h)
 
 -- with j requests left it gives them first
-pub going : (p : List ℕ) (j at k : ℕ) → length p - at ≡ j * (2 * fieldLengthIn p) → steps p at (j + k) ≡ eachRequest (requestsIn (fieldLengthIn p) j (drop at p)) ++ replicate k (accepted [])
+pub going : (p : List ℕ) (j at k : ℕ) → requestsEnd p - at ≡ j * (2 * fieldLengthIn p)
+    → steps p at (j + k) ≡ eachRequest (requestsIn (fieldLengthIn p) j (drop at p)) ++ replicate k (accepted [])
 unfolding stepOutcome placeAfter
 going p zero at k h = rw zero-add (ended p at k (let l = field-low p in omega arith))
 going p (suc j) at k h =
@@ -52,11 +53,12 @@ stepping-if v p k true e =
     let r = read-of v p (eqb-true (readOutcome v p .number) 0 e) in
     let q = part-of v p in
     let f = fieldLengthIn p in
-    let j = (length p - requestsAt p) / (2 * f) in
+    let j = countIn p in
     rw (q .next, e, length-requests-in f j (drop (requestsAt p) p)) (going p j (requestsAt p) k (requests-room v p r))
 stepping-if v p k false e =
     let q = part-of v p in
     let l = field-low p in
+    let h = end-high p in
     rw (q .next, e, zero-add) (ended p (length p) k (omega arith))
 
 -- stepping from where reading left the reader

@@ -3,18 +3,17 @@ use Prim.Native.Nat.{ℕ, zero, suc, _+_, _*_, _-_}
 use mathlib.Core.Bool.{Bool, cond}
 use mathlib.Core.List.{List, [], _∷_}
 use lib.Dec.{ltb}
-use lib.ListN.{length}
 use Rattle.ranges.specs.Range.{Range}
 use Rattle.outcomes.specs.Outcome.{Outcome, accepted, lent}
 use Rattle.nak.specs.declared.Edition.{Edition}
 use Rattle.nak_parser.specs.declared.Step.{Step}
 use Rattle.nak_parser.specs.declared.Step.the-variants.{Request, End}
-use Rattle.nak_parser.specs.Parser.{fieldAt, fieldLengthIn, packetRequests, readOutcome}
+use Rattle.nak_parser.specs.Parser.{fieldAt, fieldLengthIn, requestsEnd, packetRequests, readOutcome}
 
--- Any reader with less than one request left is at its end: fewer than 2F octets from its place to the packet's end. F is that of
--- the packet's large file flag; behind the packet's end there are no octets.
+-- Any reader with less than one request left is at its end: fewer than 2F octets from its place to the packet's end or its trailer. F
+-- and the trailer are those of octet 0's flags; behind the packet's end there are no octets.
 unfoldable pub atEnd : List ℕ → ℕ → Bool
-atEnd p at = ltb (length p - at) (2 * fieldLengthIn p)
+atEnd p at = ltb (requestsEnd p - at) (2 * fieldLengthIn p)
 
 -- A step gives the request at the place, start and end, or says that it is at the end.
 unfoldable pub stepOutcome : List ℕ → ℕ → Outcome

@@ -1,4 +1,5 @@
 // Inner: not part of the public interface. Some of these have a `requires`, which their callers show.
+use crc::ends_in_crc;
 use nak::Edition;
 use nak::Form;
 use nak::inner::lengths::header_length;
@@ -11,6 +12,7 @@ use outcomes::Refusal;
 use outcomes::Verdict;
 use outcomes::in_numbers;
 ghost use mathlib.Core.Path.{_≡_};
+ghost use mathlib.Core.Bool.{cond};
 ghost use mathlib.Core.List.{[], _∷_};
 ghost use Prim.Native.Nat.{_+_, _*_, _-_, _≤_, _<_};
 ghost use lib.ListN.{length, take, drop};
@@ -18,9 +20,10 @@ ghost use denote.Ref.{ptr};
 ghost use Rattle.outcomes.specs.Outcome.{accepted};
 ghost use Rattle.outcomes.specs.Refusal.{refusing};
 ghost use Rattle.outcomes.specs.Checks.{firstOf, verdictCase};
-ghost use Rattle.nak.specs.Header.{fixedBits0, wrongFixed, flagOf, formOf};
+ghost use Rattle.nak.specs.Header.{fixedBits0, wrongFixed, flagOf, crcFlagOf, formOf};
 ghost use Rattle.nak.specs.Request.{requestsChecks};
-ghost use Rattle.nak_parser.specs.Parser.{headerIn, entityLengthIn, numberLengthIn, headerLengthIn, requestsIn, packetIdentity, isWrongLength, isWrongData, shapeChecks, refusedParsed};
+ghost use Rattle.nak_parser.specs.Parser.{packetCrc, headerIn, entityLengthIn, numberLengthIn, headerLengthIn, requestsIn, packetIdentity};
+ghost use Rattle.nak_parser.specs.Parser.{isWrongLength, wrongTrailer, isWrongData, shapeChecks, refusedParsed};
 use crate::Parsed;
 use nak::Identity;
 use nak::NAK_CODE;
@@ -36,8 +39,8 @@ fn fixed_bits_in(edition: Edition, o0: usize) -> usize
     ensures { λ r. ⌜ r ≡ fixedBits0 edition o0 ⌝ }
 {
     match edition {
-        Edition::Older => o0,
-        Edition::Newer => o0 / 2 * 2,
+        Edition::Older => o0 / 4 * 4 + o0 % 2,
+        Edition::Newer => o0 / 4 * 4,
     }
 }
 
@@ -51,12 +54,24 @@ pub fn wrong_fixed(edition: Edition, o0: usize, o3: usize) -> bool
     o3 / 128 * 128 + o3 / 8 % 2 * 8 != 0
 }
 
-// 16 for the header H, the length field and the packet's length.
-pub fn wrong_length(total: usize, h: usize, len: usize) -> bool
-    requires { ⌜ (h ≤ 28) × (len < 65536) ⌝ }
-    ensures { λ r. ⌜ r ≡ isWrongLength total h len ⌝ }
+// 16 for the header H, the length field and the packet's length; the trailer has t octets.
+pub fn wrong_length(total: usize, h: usize, len: usize, t: usize) -> bool
+    requires { ⌜ (h ≤ 28) × (len < 65536) × (t ≤ 2) ⌝ }
+    ensures { λ r. ⌜ r ≡ isWrongLength total h len t ⌝ }
 {
-    if len == 0 { true } else { total != h + len }
+    if len < 1 + t { true } else { total != h + len }
+}
+
+// 21, by the packet's CRC flag.
+pub fn wrong_trailer(packet: &[u8], crc: bool) -> bool
+    requires { ⌜ crc ≡ packetCrc (now packet) ⌝ }
+    ensures { λ r. ⌜ r ≡ wrongTrailer (now (packet .entry)) ⌝ }
+{
+    if crc {
+        !ends_in_crc(packet, 0, packet.len())
+    } else {
+        false
+    }
 }
 
 // 16 for the data field, its numbers of f octets.
@@ -81,12 +96,27 @@ pub fn flag_of(octet: usize) -> LargeFileFlag
     }
 }
 
+// Whether octet 0 says that there is a trailer.
+pub fn crc_flag_of(octet: usize) -> bool
+    ensures { λ r. ⌜ r ≡ crcFlagOf octet ⌝ }
+{
+    octet / 2 % 2 == 1
+}
+
+// And so how many octets it has.
+pub fn trailer_of(octet: usize) -> usize
+    ensures { λ r. ⌜ r ≡ cond (crcFlagOf octet) 2 0 ⌝ }
+{
+    if crc_flag_of(octet) { 2 } else { 0 }
+}
+
 // The form that octet 0 says, on a link of this edition.
 pub fn form_of(edition: Edition, octet: usize) -> Form
     ensures { λ r. ⌜ r ≡ formOf edition octet ⌝ }
 {
     let flag = flag_of(octet);
-    Form { edition, flag }
+    let crc = crc_flag_of(octet);
+    Form { edition, flag, crc }
 }
 
 // What the header's first four octets say: the form, I and Q, and so H; the length field.
@@ -127,14 +157,18 @@ pub fn shape(packet: &[u8], edition: Edition, header: Header) -> Verdict
     }
     let h = header.length;
     let len = header.data_length;
-    if wrong_length(packet.len(), h, len) {
+    let form = header.form;
+    let t = form.trailer_length();
+    if wrong_length(packet.len(), h, len, t) {
         return Verdict::Refused(Refusal::LengthMismatch);
+    }
+    if wrong_trailer(packet, form.crc) {
+        return Verdict::Refused(Refusal::BadTrailer);
     }
     if packet[h] != NAK_CODE {
         return Verdict::Refused(Refusal::NotNak);
     }
-    let form = header.form;
-    if wrong_data(len, form.field_length()) {
+    if wrong_data(len - t, form.field_length()) {
         return Verdict::Refused(Refusal::LengthMismatch);
     }
     Verdict::Passed
@@ -202,6 +236,7 @@ pub fn refused(edition: Edition, r: Refusal, length: usize) -> Parsed
         form: Form {
             edition,
             flag: LargeFileFlag::Normal,
+            crc: false,
         },
         scope_start: 0,
         scope_end: 0,

@@ -50,7 +50,8 @@ pub fn parse(packet: &[u8], edition: Edition) -> Parsed
         return inner::refused(edition, Refusal::ScopeReversed, total);
     }
     let from = at + 2 * f;
-    let found = inner::check_packet(packet, from, f, (total - from) / (2 * f));
+    let to = total - form.trailer_length();
+    let found = inner::check_packet(packet, from, f, (to - from) / (2 * f));
     if let Verdict::Refused(r) = found {
         return inner::refused(edition, r, total);
     }
@@ -67,7 +68,7 @@ pub fn parse(packet: &[u8], edition: Edition) -> Parsed
         scope_start,
         scope_end,
         from,
-        to: total,
+        to,
         next: from,
     }
 }
@@ -103,9 +104,11 @@ pub fn next_at(packet: &[u8], at: usize) -> Found
             at,
         };
     }
-    let flag = inner::flag_of(inner::wide(packet[0]));
+    let octet = inner::wide(packet[0]);
+    let flag = inner::flag_of(octet);
     let f = flag.field_length();
-    if total - at < 2 * f {
+    let t = inner::trailer_of(octet);
+    if total - at < 2 * f + t {
         return Found {
             step: Step::End,
             at,

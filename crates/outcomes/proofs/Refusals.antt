@@ -39,7 +39,8 @@ refusalBack o =
     (cond (eqb (o .number) 18) refusal.ScopeReversed
     (cond (eqb (o .number) 19) refusal.AlreadyKnown
     (cond (eqb (o .number) 20) refusal.BudgetTooLarge
-    refusal.FileSizeError))))))))))))))))))))
+    (cond (eqb (o .number) 21) refusal.BadTrailer
+    refusal.FileSizeError)))))))))))))))))))))
 
 pub refusal-back : (r : Refusal) → refusalBack (refusing r) ≡ r
 refusal-back refusal.StoreFull = refl
@@ -62,6 +63,7 @@ refusal-back refusal.NotNak = refl
 refusal-back refusal.ScopeReversed = refl
 refusal-back refusal.AlreadyKnown = refl
 refusal-back refusal.BudgetTooLarge = refl
+refusal-back refusal.BadTrailer = refl
 refusal-back refusal.FileSizeError = refl
 
 pub one-refusal : (r s : Refusal) → refusing r ≡ refusing s → r ≡ s
@@ -88,6 +90,7 @@ refuses refusal.NotNak = refl
 refuses refusal.ScopeReversed = refl
 refuses refusal.AlreadyKnown = refl
 refuses refusal.BudgetTooLarge = refl
+refuses refusal.BadTrailer = refl
 refuses refusal.FileSizeError = refl
 
 pub no-refusal : (r : Refusal) {vs : List ℕ} → refusing r ≡ accepted vs → ⊥

@@ -1,4 +1,4 @@
--- The number of each refusal, and what it also carries (document 01, "Numbers handed back on refusal"; 22: document 02, C-14).
+-- The number of each refusal, and what it also carries (document 01, "Numbers handed back on refusal"; 21 and 22: document 02, C-11 and C-14).
 use mathlib.Core.List.{[], _∷_}
 use Rattle.outcomes.specs.Outcome.{Outcome, refused}
 use Rattle.outcomes.specs.declared.Refusal.{Refusal}
@@ -25,4 +25,5 @@ refusing refusal.NotNak = refused 17 []
 refusing refusal.ScopeReversed = refused 18 []
 refusing refusal.AlreadyKnown = refused 19 []
 refusing refusal.BudgetTooLarge = refused 20 []
+refusing refusal.BadTrailer = refused 21 []
 refusing refusal.FileSizeError = refused 22 []

@@ -30,6 +30,7 @@ pub enum Refusal {
     ScopeReversed,
     AlreadyKnown,
     BudgetTooLarge,
+    BadTrailer,
     FileSizeError,
 }
 
@@ -93,6 +94,7 @@ pub fn in_numbers(r: Refusal) -> Told
         Refusal::ScopeReversed => bare(18),
         Refusal::AlreadyKnown => bare(19),
         Refusal::BudgetTooLarge => bare(20),
+        Refusal::BadTrailer => bare(21),
         Refusal::FileSizeError => bare(22),
     }
 }

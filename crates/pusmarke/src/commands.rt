@@ -190,7 +190,7 @@ fn answer(
 ) -> State {
     match command {
         Command::New => state::new(s, memory, values[0], values[1], out),
-        Command::Link => state::link(s, values[0], out),
+        Command::Link => state::link(s, values[0], values[1], out),
         Command::Lend => state::lend(s, values[0], out),
         Command::Load => state::load(s, values, out),
         Command::Poke => state::poke(s, memory, values[0], values, n, out),

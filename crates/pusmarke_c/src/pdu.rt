@@ -18,6 +18,7 @@ use c_values::PusmarkeStep;
 use c_values::inner::edition_in;
 use c_values::inner::form_in;
 use c_values::inner::identity_in;
+use c_values::inner::mark_of;
 use c_values::pdu::flag_out;
 use c_values::pdu::identity_out;
 use c_values::pdu::step_out;
@@ -50,12 +51,14 @@ pub extern "C" fn pusmarke_read(packet: &[u8], older: u64) -> PusmarkeNak
     let flag = form.flag;
     let identity = identity_out(own);
     let large = flag_out(flag);
+    let crc = mark_of(form.crc);
     PusmarkeNak {
         refusal: p.refusal,
         start: p.start,
         end: p.end,
         identity,
         large,
+        crc,
         scope_start: p.scope_start,
         scope_end: p.scope_end,
         from: p.from,

@@ -34,6 +34,7 @@ each refusal.NotNak = refl
 each refusal.ScopeReversed = refl
 each refusal.AlreadyKnown = refl
 each refusal.BudgetTooLarge = refl
+each refusal.BadTrailer = refl
 each refusal.FileSizeError = refl
 
 pub carries : (number : ℕ) {n : ℕ} → valuesOf number ≡ n → Carries number n

@@ -30,7 +30,8 @@ fn identity_of(values: &[u64; 8209]) -> Identity {
 fn form_of(s: State, mark: u64) -> Form {
     let edition = state::edition(s);
     let flag = flag_of(mark);
-    Form { edition, flag }
+    let crc = s.crc;
+    Form { edition, flag, crc }
 }
 
 // The requests of `write` are the words behind the first nine.
@@ -81,6 +82,14 @@ fn show_flag(out: &mut [u8; 65536], at: usize, flag: LargeFileFlag) -> usize {
     }
 }
 
+fn show_trailer(out: &mut [u8; 65536], at: usize, crc: bool) -> usize {
+    if crc {
+        print::text(out, at, b" crc")
+    } else {
+        print::text(out, at, b" plain")
+    }
+}
+
 // A step for each request of the part that holds them, and one that says the end.
 fn steps_of(part: &[u8], form: Form) -> usize {
     part.len() / (2 * form.field_length()) + 1
@@ -128,7 +137,7 @@ fn read_packet(s: State, packet: &[u8], out: &mut [u8; 65536]) -> State {
     at = print::number(out, at, identity.number);
     at = print::number(out, at, identity.destination);
     at = show_flag(out, at, flag);
-    at = print::text(out, at, b" plain");
+    at = show_trailer(out, at, form.crc);
     at = print::number(out, at, parsed.scope_start);
     at = print::number(out, at, parsed.scope_end);
     let steps = steps_of(nak_parser::requests(packet, edition), form);

@@ -12,8 +12,9 @@ pub struct State {
     // The record; how many numbers of the memory are lent as its list.
     pub rec: Reception,
     pub length: usize,
-    // Whether the link speaks the older edition.
+    // Whether the link speaks the older edition, and whether its PDUs are written with a CRC trailer.
     pub older: bool,
+    pub crc: bool,
     // Lines ended so far; octets of the present line, and whether more came than a line may have.
     pub lines: u64,
     pub filled: usize,
@@ -28,6 +29,7 @@ pub fn start() -> State {
         rec: Reception::fresh(Width::Wide),
         length: 8192,
         older: false,
+        crc: false,
         lines: 0,
         filled: 0,
         overlong: false,
@@ -92,10 +94,11 @@ pub fn edition(s: State) -> Edition {
     }
 }
 
-// link: the edition that PDUs are written in and read by, until the next `link`.
-pub fn link(s: State, older: u64, out: &mut [u8; 65536]) -> State {
+// link: the edition that PDUs are written in and read by, and whether they are written with a trailer, until the next `link`.
+pub fn link(s: State, older: u64, crc: u64, out: &mut [u8; 65536]) -> State {
     let mut next = s;
     next.older = older != 0;
+    next.crc = crc != 0;
     says(next, out, b"ok")
 }
 

@@ -147,7 +147,7 @@ fn mark(word: &[u8], first: &[u8], second: &[u8]) -> Value {
 }
 
 // What a word says where this kind is due: `r` ranges, `l` a length of the memory, `b` one of the buffer, `c` cells of a picture, `w` a width, `k` whether
-// metadata is known, `f` the large file flag, `e` the edition, `t` the word `plain`, `o` the word `open`, `p` the word `pairs`, `.` nothing; any other kind is a number.
+// metadata is known, `f` the large file flag, `e` the edition, `t` the trailer, `o` the word `open`, `p` the word `pairs`, `.` nothing; any other kind is a number.
 fn read_word(word: &[u8], kind: u8) -> Value {
     match kind {
         b'r' => number_to(word, MOST_RANGES),
@@ -158,7 +158,7 @@ fn read_word(word: &[u8], kind: u8) -> Value {
         b'k' => mark(word, b"known", b"missing"),
         b'f' => mark(word, b"normal", b"large"),
         b'e' => mark(word, b"newer", b"older"),
-        b't' => mark(word, b"plain", b"plain"),
+        b't' => mark(word, b"plain", b"crc"),
         b'o' => mark(word, b"open", b"open"),
         b'p' => mark(word, b"pairs", b"pairs"),
         b'.' => Value::Wrong,

@@ -6,7 +6,7 @@ ghost use Prim.Native.Nat.{_≤_};
 ghost use lib.ListN.{length};
 ghost use Rattle.ranges.specs.Store.{flat, mostNumbers};
 ghost use Rattle.octets.specs.Flag.{fieldLength};
-ghost use Rattle.nak.specs.Pdu.{headerLength, dataLength, pduLength, perPdu, isTooSmall};
+ghost use Rattle.nak.specs.Pdu.{headerLength, dataLength, trailerLength, pduLength, perPdu, isTooSmall};
 ghost use Rattle.nak.specs.Inner.{metadataFirst, GoodLengths};
 
 // H, by the identifier lengths.
@@ -32,7 +32,7 @@ pub fn pdu_length(identity: Identity, form: Form, numbers: usize) -> usize
     ensures { λ r. ⌜ r ≡ pduLength form identity numbers ⌝ }
 {
     let h = header_length(identity.entity_length, identity.number_length);
-    h + data_length(form, numbers)
+    h + data_length(form, numbers) + form.trailer_length()
 }
 
 // Whether a PDU of at most `largest` octets has no room for a request.
@@ -50,7 +50,7 @@ pub fn per_pdu(identity: Identity, form: Form, largest: usize) -> usize
 {
     let h = header_length(identity.entity_length, identity.number_length);
     let f = form.field_length();
-    (largest - h - 1 - 2 * f) / (2 * f)
+    (largest - form.trailer_length() - h - 1 - 2 * f) / (2 * f)
 }
 
 // How many numbers the metadata request has, where it is asked for.

@@ -6,17 +6,18 @@ use crate::NAK_CODE;
 use crate::inner::lengths::asked_numbers;
 use crate::inner::lengths::data_length;
 use crate::inner::lengths::header_length;
+use crc::inner::put_trailer;
 use octets::LargeFileFlag;
 use octets::inner::put;
 use octets::inner::put_all;
 ghost use mathlib.Core.Path.{_≡_};
-ghost use Prim.Native.Nat.{_+_, _*_, _≤_};
-ghost use lib.ListN.{length};
+ghost use Prim.Native.Nat.{_+_, _*_, _-_, _≤_};
+ghost use lib.ListN.{length, take, drop};
 ghost use Rattle.ranges.specs.Range.{range};
 ghost use Rattle.ranges.specs.Store.{flat};
 ghost use Rattle.octets.specs.Octets.{fields, withOctets};
-ghost use Rattle.nak.specs.Header.{fixed0, flagBit, octet0};
-ghost use Rattle.nak.specs.Pdu.{saying, headerOctets, identityOctets, dataOctets, dataLength, pdu};
+ghost use Rattle.nak.specs.Header.{fixed0, crcBit, flagBit, octet0};
+ghost use Rattle.nak.specs.Pdu.{saying, headerOctets, identityOctets, dataOctets, dataLength, trailerLength, front, trailer, pdu};
 ghost use Rattle.nak.specs.Inner.{metadataFirst, entries, GoodLengths};
 
 fn wide(x: usize) -> u64
@@ -25,7 +26,7 @@ fn wide(x: usize) -> u64
     x as u64
 }
 
-// Octet 0 but for its lowest bit.
+// Octet 0 but for the CRC flag and the lowest bit.
 pub fn fixed_bits(edition: Edition) -> u64
     ensures { λ r. ⌜ r ≡ fixed0 edition ⌝ }
 {
@@ -44,12 +45,18 @@ fn flag_bit(flag: LargeFileFlag) -> u64
     }
 }
 
+fn crc_bit(crc: bool) -> u64
+    ensures { λ r. ⌜ r ≡ crcBit crc ⌝ }
+{
+    if crc { 1 } else { 0 }
+}
+
 fn octet_0(form: Form) -> u64
     ensures { λ r. ⌜ r ≡ octet0 form ⌝ }
 {
     let edition = form.edition;
     let flag = form.flag;
-    fixed_bits(edition) + flag_bit(flag)
+    fixed_bits(edition) + crc_bit(form.crc) * 2 + flag_bit(flag)
 }
 
 // The header's first four octets.
@@ -111,6 +118,49 @@ fn put_data(
     put_all(buf, place, f, requests, 2 * first, 2 * count);
 }
 
+// A PDU but for its trailer, at a place of a larger buffer, its requests the metadata request, where it is asked for, and pairs of a flat
+// list. Answers the place behind it.
+fn put_front(
+    buf: &mut [u8],
+    at: usize,
+    identity: Identity,
+    form: Form,
+    start: u64,
+    end: u64,
+    metadata: bool,
+    requests: &[u64],
+    first: usize,
+    count: usize,
+) -> usize
+    requires { ⌜ GoodLengths identity × (2 * first + 2 * count ≤ length (now requests))
+        × (at + length (pdu (saying form identity start end (entries metadata (now requests) first count))) ≤ length (now buf)) ⌝ }
+    ensures { λ r. ⌜ (r ≡ at + length (front (saying form identity start end (entries metadata (now (requests .entry)) first count))))
+        × (now (buf .exit) ≡ withOctets (now (buf .entry)) at (front (saying form identity start end (entries metadata (now (requests .entry)) first count)))) ⌝ }
+{
+    let i = identity.entity_length;
+    let q = identity.number_length;
+    let f = form.field_length();
+    let len = data_length(form, asked_numbers(metadata) + 2 * count);
+    put_header(buf, at, form, i, q, len + form.trailer_length());
+    put_identity(buf, at + 4, identity);
+    let place = at + header_length(i, q);
+    put_data(buf, place, f, start, end, metadata, requests, first, count);
+    place + len
+}
+
+// The trailer of the octets in the places `at` up to `to`, where the form has one. Answers the place behind it.
+fn put_end(buf: &mut [u8], at: usize, to: usize, form: Form) -> usize
+    requires { ⌜ to + trailerLength form ≤ length (now buf) ⌝ }
+    ensures { λ r. ⌜ (r ≡ to + trailerLength form)
+        × (now (buf .exit) ≡ withOctets (now (buf .entry)) to (trailer form (take (to - at) (drop at (now (buf .entry)))))) ⌝ }
+{
+    if !form.crc {
+        return to;
+    }
+    put_trailer(buf, at, to);
+    to + 2
+}
+
 // A PDU at a place of a larger buffer, its requests the metadata request, where it is asked for, and pairs of a flat list.
 // Answers the place behind it.
 pub fn write_at(
@@ -130,14 +180,17 @@ pub fn write_at(
     ensures { λ r. ⌜ (r ≡ at + length (pdu (saying form identity start end (entries metadata (now (requests .entry)) first count))))
         × (now (buf .exit) ≡ withOctets (now (buf .entry)) at (pdu (saying form identity start end (entries metadata (now (requests .entry)) first count)))) ⌝ }
 {
-    let i = identity.entity_length;
-    let q = identity.number_length;
-    let f = form.field_length();
-    let len = data_length(form, asked_numbers(metadata) + 2 * count);
-    put_header(buf, at, form, i, q, len);
-    put_identity(buf, at + 4, identity);
-    let place = at + header_length(i, q);
-    put_data(buf, place, f, start, end, metadata, requests, first, count);
-    // Behind the data field: no trailer.
-    place + len
+    let to = put_front(
+        buf,
+        at,
+        identity,
+        form,
+        start,
+        end,
+        metadata,
+        requests,
+        first,
+        count,
+    );
+    put_end(buf, at, to, form)
 }

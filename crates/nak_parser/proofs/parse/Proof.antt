@@ -14,11 +14,12 @@ use Rattle.outcomes.specs.declared.Refusal.the-variants as refusal
 use Rattle.outcomes.proofs.FirstOf.{first-refused, none-of}
 use Rattle.octets.specs.Flag.{fieldLength}
 use Rattle.nak.specs.declared.Edition.{Edition}
+use Rattle.nak.specs.Pdu.{trailerLength}
 use Rattle.nak.specs.Writer.{largestPdu}
 use Rattle.nak.specs.Request.{requestsChecks}
 use Rattle.nak_parser.specs.declared.inner.Header.{Header}
-use Rattle.nak_parser.specs.Parser.{fieldLengthIn, headerLengthIn, behindScope, requestsAt, scopeIn, packetRequests, shapeChecks, readOutcome}
-use Rattle.nak_parser.proofs.Reading.{is-scope, is-place, is-requests, field-low, field-high, header-high}
+use Rattle.nak_parser.specs.Parser.{trailerIn, fieldLengthIn, headerLengthIn, behindScope, requestsAt, requestsEnd, scopeIn, packetRequests, shapeChecks, readOutcome}
+use Rattle.nak_parser.proofs.Reading.{is-scope, is-place, is-requests, is-end, field-low, field-high, header-high, trailer-high}
 use Rattle.nak_parser.proofs.Reading.{Shape, shape-of, sizeCheck, scopeChecks, in-order, from-scope, from-requests, from-size}
 use Rattle.nak_parser.proofs.ParsedOf.{parsed-accepted, parsed-by, short, is-parsed}
 use borrow.Author.Needs.{needs}
@@ -100,9 +101,30 @@ scope c = is-scope (p (startF (fromG c))) (at-is (fromG c)) (f-is (fromG c)) (c 
 ordered : (c : tie.Else2) → let q = p (startF (fromG (c .before))) in scopeIn q .start ≤ scopeIn q .end
 ordered c = rw (← scope (c .before)) (omega (arith, c .if2 .left))
 
+-- where the requests end
+abbrev to : tie.After-trailer-length → ℕ
+to c = length (p (startF (fromG (c .before .before)))) - c .trailer-length .result
+
+t-is : (c : tie.After-trailer-length) → c .trailer-length .result ≡ trailerIn (p (startF (fromG (c .before .before))))
+unfolding trailerIn
+t-is c = c .trailer-length .ensures ∙ ap (λ (h : Header). trailerLength (h .form)) (fromF (fromG (c .before .before)) .before .before .before .header-in .ensures)
+
+end-is : (c : tie.After-trailer-length) → to c ≡ requestsEnd (p (startF (fromG (c .before .before))))
+end-is c = is-end (p (startF (fromG (c .before .before)))) (t-is c)
+
+to-room : (c : tie.After-trailer-length) → let g = fromG (c .before .before) in (c .trailer-length .result ≤ 2) × (at g + 2 * f g + c .trailer-length .result ≤ length (p (startF g)))
+to-room c =
+    let g = fromG (c .before .before) in
+    let q = p (startF g) in
+    let s = shape-right (fromF g) in
+    let a = at-is g in
+    let e = f-is g in
+    let t = t-is c in
+    (omega (arith, trailer-high q), omega (arith, s .total, s .room))
+
 -- the requests
 abbrev fromC : tie.After-check-packet → tie.Else2
-fromC c = c .before
+fromC c = c .before .before
 
 abbrev startC : tie.After-check-packet → tie.Start
 startC c = startF (fromG (fromC c .before))
@@ -110,7 +132,7 @@ startC c = startF (fromG (fromC c .before))
 asked : (c : tie.After-check-packet) → verdictCase (c .check-packet .result) ≡ firstOf (requestsChecks (packetRequests (p (startC c)))) (accepted [])
 asked c =
     let g = fromG (fromC c .before) in
-    c .check-packet .ensures ∙ ap (λ (rs : List Range). firstOf (requestsChecks rs) (accepted [])) (is-requests (p (startC c)) (place g) (f-is g))
+    c .check-packet .ensures ∙ ap (λ (rs : List Range). firstOf (requestsChecks rs) (accepted [])) (is-requests (p (startC c)) (place g) (end-is (c .before)) (f-is g))
 
 abbrev shapeC : (c : tie.After-check-packet) → Shape (v (startC c)) (p (startC c))
 shapeC c = shape-right (fromF (fromG (fromC c .before)))
@@ -189,21 +211,27 @@ mul-from c = omega (arith, room (fromG (c .before)))
 add-from : tie.Need-add-from
 add-from c = omega (arith, room (fromG (c .before)))
 
+trailer-length-requires : tie.Need-trailer-length-requires
+trailer-length-requires c κs = search needs
+
+sub-to : tie.Need-sub-to
+sub-to c = omega (arith, to-room c)
+
 sub-check-packet : tie.Need-sub-check-packet
-sub-check-packet c = omega (arith, room (fromG (c .before)))
+sub-check-packet c = omega (arith, to-room c)
 
 mul-check-packet : tie.Need-mul-check-packet
-mul-check-packet c = omega (arith, room (fromG (c .before)))
+mul-check-packet c = omega (arith, room (fromG (c .before .before)))
 
 div-check-packet : tie.Need-div-check-packet
-div-check-packet c = omega (arith, room (fromG (c .before)))
+div-check-packet c = omega (arith, room (fromG (c .before .before)))
 
 check-packet-requires : tie.Need-check-packet-requires
 check-packet-requires c κs =
-    let g = fromG (c .before) in
+    let g = fromG (c .before .before) in
     let r = room g in
-    let m = mul-div-le (length (p (startF g)) - behindScope (at g) (f g)) (2 * f g) in
-    (omega (arith, r), omega (arith, r, m))
+    let m = mul-div-le (to c - behindScope (at g) (f g)) (2 * f g) in
+    (omega (arith, r), omega (arith, r, to-room c, m))
 
 enum-known-found : tie.Need-enum-known-found
 enum-known-found c = search needs
@@ -247,7 +275,7 @@ returns-6 c =
     let g = fromG (fromC b .before) in
     let e : readOutcome (v (startC b)) q ≡ accepted [] = rw (then-size d, le-ltb largestPdu (length q) (omega (arith, c .before .if3 .left))) in
     let form = ap (λ (h : Header). h .form) (fromF g .before .before .before .header-in .ensures) in
-    is-parsed (v (startC b)) q (c .identity-in .ensures) form (scope (fromC b .before)) (place g) ∙ sym (parsed-accepted (v (startC b)) q e)
+    is-parsed (v (startC b)) q (c .identity-in .ensures) form (scope (fromC b .before)) (place g) (end-is (b .before)) ∙ sym (parsed-accepted (v (startC b)) q e)
 
 pub parse-spec : {M : Type 1} → statement M
 parse-spec =
@@ -270,6 +298,8 @@ parse-spec =
     returns-3
     mul-from
     add-from
+    trailer-length-requires
+    sub-to
     sub-check-packet
     mul-check-packet
     div-check-packet

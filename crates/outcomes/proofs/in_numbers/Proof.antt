@@ -131,6 +131,12 @@ enum-told-18 c = search needs
 bare-requires-18 : tie.Need-bare-requires-18
 bare-requires-18 c κs = search needs
 
+enum-told-19 : tie.Need-enum-told-19
+enum-told-19 c = search needs
+
+bare-requires-19 : tie.Need-bare-requires-19
+bare-requires-19 c κs = search needs
+
 returns : tie.Need-returns
 returns c = rw (c .before .enum-told .given .1) (c .bare .ensures)
 
@@ -194,6 +200,9 @@ returns-20 c = rw (c .before .enum-told17 .given .1) (c .bare17 .ensures)
 returns-21 : tie.Need-returns-21
 returns-21 c = rw (c .before .enum-told18 .given .1) (c .bare18 .ensures)
 
+returns-22 : tie.Need-returns-22
+returns-22 c = rw (c .before .enum-told19 .given .1) (c .bare19 .ensures)
+
 pub in-numbers-spec : {M : Type 1} → statement M
 in-numbers-spec =
     tie.close
@@ -240,6 +249,8 @@ in-numbers-spec =
     bare-requires-17
     enum-told-18
     bare-requires-18
+    enum-told-19
+    bare-requires-19
     returns
     returns-2
     returns-3
@@ -260,4 +271,5 @@ in-numbers-spec =
     returns-18
     returns-19
     returns-20
-    returns-21)
+    returns-21
+    returns-22)

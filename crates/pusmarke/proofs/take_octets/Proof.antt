@@ -22,7 +22,10 @@ take-octet-requires : tie.Need-take-octet-requires Inv-loop μ-loop
 take-octet-requires c κs = search needs
 
 add-i : tie.Need-add-i Inv-loop μ-loop
-add-i c = search needs
+add-i c =
+    let turn = c .before .before .before .before .before .before .before .before .before .before .before .before .before in
+    let start = turn .before .before .before .before .before .before in
+    search (needs, turn .loop-test .taken, start .good)
 
 loop-less : tie.Need-loop-less Inv-loop μ-loop
 loop-less c = search needs

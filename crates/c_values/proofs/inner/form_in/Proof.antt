@@ -9,8 +9,11 @@ edition-in-requires c κs = search needs
 flag-in-requires : tie.Need-flag-in-requires
 flag-in-requires c κs = search needs
 
+is-set-requires : tie.Need-is-set-requires
+is-set-requires c κs = search needs
+
 returns : tie.Need-returns
-returns c = rw (c .flag-in .ensures, c .before .edition-in .ensures)
+returns c = rw (c .is-set .ensures, c .before .flag-in .ensures, c .before .before .edition-in .ensures)
 
 pub form-in-spec : {M : Type 1} → statement M
-form-in-spec = tie.close (tie.spec edition-in-requires flag-in-requires returns)
+form-in-spec = tie.close (tie.spec edition-in-requires flag-in-requires is-set-requires returns)

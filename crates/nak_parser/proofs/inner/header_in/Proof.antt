@@ -1,7 +1,7 @@
 -- `nak_parser::inner::header_in` meets its contract: it computes the definition.
 use mathlib.Core.Path.{ap, _∙_}
 use Rattle.nak.specs.Header.{formOf}
-use Rattle.nak_parser.specs.Parser.{packetFlag, entityLengthIn, numberLengthIn, headerLengthIn, lengthField}
+use Rattle.nak_parser.specs.Parser.{packetFlag, packetCrc, entityLengthIn, numberLengthIn, headerLengthIn, lengthField}
 use borrow.Author.Needs.{needs}
 use Rattle.nak_parser.proofs.inner.header_in.Statement.{statement}
 use Rattle.nak_parser.proofs.inner.header_in.Tie as tie
@@ -34,7 +34,7 @@ get-requires : tie.Need-get-requires
 get-requires c κs = search needs
 
 returns : tie.Need-returns
-unfolding packetFlag entityLengthIn numberLengthIn headerLengthIn lengthField
+unfolding packetFlag packetCrc entityLengthIn numberLengthIn headerLengthIn lengthField
 returns c =
     let octet3 = c .before .before .before .before .before .wide .ensures in
     let form = c .before .before .form-of .ensures ∙ ap (formOf (c .before .before .before .before .before .before .before .before .args .edition)) (c .before .before .before .wide2 .ensures) in

@@ -17,12 +17,16 @@ identity-out-requires c κs = search needs
 flag-out-requires : tie.Need-flag-out-requires
 flag-out-requires c κs = search needs
 
+mark-of-requires : tie.Need-mark-of-requires
+mark-of-requires c κs = search needs
+
 returns : tie.Need-returns
 returns c =
-    let b = c .before .before .before .before in
+    let f = c .before in
+    let b = f .before .before .before .before in
     let said = rw (b .before .edition-in .ensures) at (b .parse .ensures) in
-    rw (c .flag-out .ensures, c .before .identity-out .ensures) (ap nakOut said)
+    rw (c .mark-of .ensures, f .flag-out .ensures, f .before .identity-out .ensures) (ap nakOut said)
 
 pub pusmarke-read-spec : {M : Type 1} → statement M
 pusmarke-read-spec =
-    tie.close (tie.spec edition-in-requires parse-requires identity-out-requires flag-out-requires returns)
+    tie.close (tie.spec edition-in-requires parse-requires identity-out-requires flag-out-requires mark-of-requires returns)

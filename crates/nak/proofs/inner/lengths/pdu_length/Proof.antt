@@ -4,7 +4,7 @@ use Prim.Native.Nat.{_+_, _*_, _≤_}
 use mathlib.Core.Path.{refl}
 use borrow.Author.Needs.{needs}
 use Rattle.octets.specs.Flag.{fieldLength}
-use Rattle.nak.proofs.Parts.{f-high}
+use Rattle.nak.proofs.Parts.{f-high, trailer-high}
 use Rattle.nak.proofs.inner.lengths.pdu_length.Statement.{statement}
 use Rattle.nak.proofs.inner.lengths.pdu_length.Tie as tie
 
@@ -21,8 +21,17 @@ data-length-requires c κs = omega (arith, high (c .before))
 add-result : tie.Need-add-result
 add-result c = omega (arith, high (c .before .before), c .data-length .ensures, c .before .header-length .ensures)
 
+trailer-length-requires : tie.Need-trailer-length-requires
+trailer-length-requires c κs = search needs
+
+add-result-2 : tie.Need-add-result-2
+add-result-2 c =
+    let d = c .before in
+    let s = d .before .before in
+    omega (arith, high s, d .data-length .ensures, d .before .header-length .ensures, c .trailer-length .ensures, trailer-high (s .args .form))
+
 returns : tie.Need-returns
-returns c = rw (c .before .header-length .ensures, c .data-length .ensures)
+returns c = rw (c .before .before .header-length .ensures, c .before .data-length .ensures, c .trailer-length .ensures)
 
 pub pdu-length-spec : {M : Type 1} → statement M
-pdu-length-spec = tie.close (tie.spec header-length-requires data-length-requires add-result returns)
+pdu-length-spec = tie.close (tie.spec header-length-requires data-length-requires add-result trailer-length-requires add-result-2 returns)

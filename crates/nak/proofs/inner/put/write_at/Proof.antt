@@ -1,153 +1,51 @@
--- `nak::inner::put::write_at` meets its contract: header, identity and data field side by side are the PDU.
+-- `nak::inner::put::write_at` meets its contract: the front, and behind it the trailer, are the PDU.
 use native.Mathlib.Omega.{arith}
-use Prim.Native.Nat.{ℕ, _+_, _*_, _≤_}
+use Prim.Native.Nat.{ℕ, _+_, _≤_}
 use mathlib.Core.Path.{_≡_, sym, ap, _∙_}
+use mathlib.Core.List.{List}
 use lib.ListN.{length}
-use Rattle.ranges.specs.Store.{flat}
-use Rattle.octets.specs.Flag.{fieldLength}
-use Rattle.nak.specs.Inner.{metadataFirst, entries}
-use Rattle.nak.specs.Pdu.{Nak, saying, headerLength, dataLength, pduLength, dataField, pdu}
-use Rattle.nak.proofs.Parts.{length-entries, length-data, pdu-length, data-low}
-use Rattle.nak.proofs.Puts.{pdu-puts}
 use borrow.Author.Needs.{needs}
+use Rattle.octets.proofs.Over.{length-over}
+use Rattle.nak.specs.Inner.{entries}
+use Rattle.nak.specs.Pdu.{Nak, saying, trailerLength, front, pdu}
+use Rattle.nak.proofs.Parts.{length-front, length-pdu}
+use Rattle.nak.proofs.Puts.{pdu-puts}
 use Rattle.nak.proofs.inner.put.write_at.Statement.{statement}
 use Rattle.nak.proofs.inner.put.write_at.Tie as tie
 
--- what the PDU says, how many numbers its requests have, and so its lengths
+-- what the PDU says
 abbrev nak : tie.Start → Nak
 nak s = saying (s .args .form) (s .args .identity) (s .args .start) (s .args .end) (entries (s .args .metadata) (s .args .requests .now) (s .args .first) (s .args .count))
 
-abbrev numbers : tie.Start → ℕ
-numbers s = length (flat (metadataFirst (s .args .metadata))) + 2 * s .args .count
+-- how long it and its front are
+long : (s : tie.Start) → length (pdu (nak s)) ≡ length (front (nak s)) + trailerLength (s .args .form)
+long s = omega (arith, length-front (nak s), length-pdu (nak s))
 
-entered : (s : tie.Start) → length (flat (nak s .requests)) ≡ numbers s
-entered s = length-entries (s .args .metadata) (s .args .requests .now) (s .args .first) (s .args .count) (s .pre .1)
+-- behind the front
+abbrev startF : tie.After-put-front → tie.Start
+startF c = c .before .before .before .before
 
-data-is : (s : tie.Start) → dataLength (fieldLength (s .args .form .flag)) (numbers s) ≡ length (dataField (nak s))
-data-is s = sym (length-data (fieldLength (s .args .form .flag)) (nak s .scope) (nak s .requests) ∙ ap (dataLength (fieldLength (s .args .form .flag))) (entered s))
+put-front-requires : tie.Need-put-front-requires
+put-front-requires c κs = search needs
 
-total : (s : tie.Start) → pduLength (s .args .form) (s .args .identity) (numbers s) ≡ length (pdu (nak s))
-total s = ap (pduLength (s .args .form) (s .args .identity)) (sym (entered s)) ∙ pdu-length (nak s)
-
--- there is room
-room : (s : tie.Start) → s .args .at + pduLength (s .args .form) (s .args .identity) (numbers s) ≤ length (s .args .buf .now)
-room s = omega (arith, total s, s .pre .2)
-
-few : (s : tie.Start) → s .args .at + (4 + numbers s) ≤ length (s .args .buf .now)
-few s = omega (arith, room s, data-low (s .args .form .flag) (2 + numbers s))
-
--- how many numbers the code counts
-abbrev startA : tie.After-asked-numbers → tie.Start
-startA c = c .before .before .before .before
-
-counted : (c : tie.After-asked-numbers) → c .asked-numbers .result + 2 * startA c .args .count ≡ numbers (startA c)
-counted c = ap (λ (k : ℕ). k + 2 * startA c .args .count) (c .asked-numbers .ensures)
-
--- the data field's length
-abbrev startD : tie.After-data-length → tie.Start
-startD c = startA (c .before)
-
-abbrev len : tie.After-data-length → ℕ
-len c = c .data-length .result
-
-len-is : (c : tie.After-data-length) → len c ≡ dataLength (fieldLength (startD c .args .form .flag)) (numbers (startD c))
-len-is c = c .data-length .ensures ∙ ap (dataLength (fieldLength (startD c .args .form .flag))) (counted (c .before))
-
-f-is : (c : tie.After-data-length) → c .before .before .field-length .result ≡ fieldLength (startD c .args .form .flag)
-f-is c = c .before .before .field-length .ensures
-
--- the place behind the header
-abbrev fromH : tie.After-header-length → tie.After-data-length
-fromH c = c .before .before .before .before .before .before .before .before .before
-
-h-is : (c : tie.After-header-length) → let d = startD (fromH c) .args .identity in c .header-length .result ≡ headerLength (d .«entity_length») (d .«number_length»)
-h-is c = c .header-length .ensures
-
--- the data field is put
-abbrev fromP : tie.After-put-data → tie.After-header-length
-fromP c = c .before .before
-
-field-length-requires : tie.Need-field-length-requires
-field-length-requires c κs = search needs
-
-asked-numbers-requires : tie.Need-asked-numbers-requires
-asked-numbers-requires c κs = search needs
-
-mul-data-length : tie.Need-mul-data-length
-mul-data-length c = search needs
-
-add-data-length : tie.Need-add-data-length
-add-data-length c = omega (arith, counted c, few (startA c))
-
-data-length-requires : tie.Need-data-length-requires
-data-length-requires c κs =
-    let s = startA c in
-    let e = ap (dataLength (fieldLength (s .args .form .flag))) (counted c) in
-    omega (arith, e, room s)
-
-put-header-requires : tie.Need-put-header-requires
-put-header-requires c κs =
-    let s = startD (c .before) in
-    let l = s .pre .0 in
-    (l .entity-low, l .entity-high, l .number-low, l .number-high, omega (arith, few s))
-
-add-put-identity : tie.Need-add-put-identity
-add-put-identity c = search needs
-
-put-identity-requires : tie.Need-put-identity-requires
-put-identity-requires c κs = omega (arith, room (startD (c .before .before .before .before .before)))
-
-header-length-requires : tie.Need-header-length-requires
-header-length-requires c κs = search needs
-
-add-place : tie.Need-add-place
-add-place c = search needs
-
-put-data-requires : tie.Need-put-data-requires
-put-data-requires c κs =
-    let d = fromH (c .before) in
-    let s = startD d in
-    let e = ap (λ (f : ℕ). dataLength f (numbers s)) (f-is d) in
-    (omega (arith, h-is (c .before), e, room s), s .pre .1)
-
-add-result : tie.Need-add-result
-add-result c =
-    let h = fromP (c .before .before) in
-    let d = fromH h in
-    omega (arith, h-is h, len-is d, room (startD d))
+put-end-requires : tie.Need-put-end-requires
+put-end-requires c κs =
+    let p = c .before .before .before in
+    let s = startF p in
+    let l = ap length (p .put-front .ensures .1) ∙ length-over (s .args .buf .now) (s .args .at) (front (nak s)) (omega (arith, long s, s .pre .2)) in
+    omega (arith, p .put-front .ensures .0, l, long s, s .pre .2)
 
 same-length : tie.Need-same-length
 same-length c = search needs
 
 returns : tie.Need-returns
 returns c =
-    let w = c .before .before in
-    let h = fromP w in
-    let d = fromH h in
-    let s = startD d in
-    let i = s .args .identity .«entity_length» in
-    let q = s .args .identity .«number_length» in
-    let place : s .args .at + h .header-length .result ≡ s .args .at + 4 + 2 * i + q = omega (arith, h-is h) in
-    let field = rw (f-is d) at (w .put-data .ensures) in
-    let header = h .before .before .before .before .before .before .before .put-header .ensures in
-    let identity = h .before .before .before .put-identity .ensures in
-    (omega (arith, h-is h, len-is d, total s), pdu-puts (s .args .buf .now) (s .args .at) (nak s) (len-is d ∙ data-is s) place header identity field (omega (arith, h-is h, room s)))
+    let q = c .before .before in
+    let p = q .before .before .before .before in
+    let s = startF p in (
+      omega (arith, q .put-end .ensures .0, p .put-front .ensures .0, long s),
+      pdu-puts (s .args .buf .now) (s .args .at) (nak s) (p .put-front .ensures .0) (p .put-front .ensures .1) (q .put-end .ensures .1) (omega (arith, long s, s .pre .2)),
+    )
 
 pub write-at-spec : {M : Type 1} → statement M
-write-at-spec =
-    tie.close
-    (tie.spec
-    field-length-requires
-    asked-numbers-requires
-    mul-data-length
-    add-data-length
-    data-length-requires
-    put-header-requires
-    add-put-identity
-    put-identity-requires
-    header-length-requires
-    add-place
-    put-data-requires
-    add-result
-    same-length
-    returns)
+write-at-spec = tie.close (tie.spec put-front-requires put-end-requires same-length returns)
