@@ -17,11 +17,11 @@
 struct pusmarke_answer { uint64_t refusal, first, second, third; };
 struct pusmarke_reception { uint64_t progress; size_t count; uint64_t narrow, missing, sized, size; };
 struct pusmarke_identity { size_t entity_length, number_length; uint64_t source, number, destination; };
-struct pusmarke_form { uint64_t older, large; };
+struct pusmarke_form { uint64_t older, large, crc; };
 struct pusmarke_nak {
     uint64_t refusal, start, end;
     struct pusmarke_identity identity;
-    uint64_t large, scope_start, scope_end;
+    uint64_t large, crc, scope_start, scope_end;
     size_t from, to, next;
 };
 struct pusmarke_step { uint64_t found, start, end; size_t at; };
@@ -40,6 +40,8 @@ struct pusmarke_answer pusmarke_missing_octets(struct pusmarke_reception, const 
 struct pusmarke_answer pusmarke_nak_sequence(
     struct pusmarke_reception, const uint64_t *, size_t, struct pusmarke_identity, struct pusmarke_form, size_t,
     size_t, size_t, uint8_t *, size_t);
+struct pusmarke_answer pusmarke_write(
+    struct pusmarke_identity, struct pusmarke_form, uint64_t, uint64_t, const uint64_t *, size_t, uint8_t *, size_t);
 struct pusmarke_nak pusmarke_read(const uint8_t *, size_t, uint64_t);
 struct pusmarke_step pusmarke_next(const uint8_t *, size_t, size_t);
 
@@ -369,7 +371,7 @@ static void missing_octets(size_t n)
 }
 
 static const struct pusmarke_identity identity = { 1, 1, 1, 7, 2 };
-static const struct pusmarke_form form = { 0, 0 };
+static const struct pusmarke_form form = { 0, 0, 0 }, crc_form = { 0, 0, 1 };
 
 // Progress is the last end: there the Rust's last scope is document 01's.
 static uint64_t port_sequence(struct pusmarke_reception record)
@@ -402,6 +404,22 @@ static void sequence(size_t n)
     rust_handler_free(handler);
 }
 
+// One PDU of the first requests, as many as a PDU of LARGEST octets has at most.
+static size_t one_pdu(size_t n) { return n < 126 ? n : 126; }
+
+static void write_pdu(size_t n, struct pusmarke_form of)
+{
+    size_t requests = one_pdu(n), total = 16 + 8 * requests + (of.crc ? 2 : 0);
+    ascending(n);
+    memset(octets, 0x5a, sizeof octets);
+    COUNT(0, answer = pusmarke_write(identity, of, 0, end_of(requests - 1), list, 2 * requests, octets, total));
+    struct pusmarke_nak nak = pusmarke_read(octets, total, 0);
+    same(answer.refusal == 0 && answer.first == total, "answer");
+    same(nak.refusal == 0 && nak.crc == of.crc && nak.to - nak.from == 8 * requests && octets[total] == 0x5a, "octets");
+}
+static void write_plain(size_t n) { write_pdu(n, form); }
+static void write_crc(size_t n) { write_pdu(n, crc_form); }
+
 // Reads a packet and steps to its end; hands back the requests.
 static uint64_t port_read(size_t total)
 {
@@ -427,7 +445,17 @@ static void read_pdu(size_t n)
     uint64_t found = 0;
     ascending(n);
     port_sequence(record);
-    size_t requests = n < 126 ? n : 126, total = 16 + 8 * requests;
+    size_t requests = one_pdu(n), total = 16 + 8 * requests;
+    COUNT(0, found = port_read(total));
+    same(found == requests && memcmp(list, other, 16 * found) == 0, "requests");
+}
+
+static void read_crc(size_t n)
+{
+    size_t requests = one_pdu(n), total = 18 + 8 * requests;
+    uint64_t found = 0;
+    ascending(n);
+    pusmarke_write(identity, crc_form, 0, end_of(requests - 1), list, 2 * requests, octets, total);
     COUNT(0, found = port_read(total));
     same(found == requests && memcmp(list, other, 16 * found) == 0, "requests");
 }
@@ -472,6 +500,9 @@ static const struct {
     { "missing_octets", PORT, missing_octets },
     { "NAK sequence", ALL, sequence },
     { "read one PDU", PORT, read_pdu },
+    { "read one PDU with a trailer", PORT, read_crc },
+    { "write one PDU", PORT, write_plain },
+    { "write one PDU with a trailer", PORT, write_crc },
 };
 static const size_t lengths[] = { 16, 64, 256, 1024, 4096 };
 

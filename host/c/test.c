@@ -591,7 +591,9 @@ static void queries(void) {
 static const struct pusmarke_identity identity = {1, 1, 1, 7, 2};
 
 /* Any number but 0 is yes. */
-static const struct pusmarke_form newer = {0, 0}, newer_large = {0, UINT64_MAX}, older = {2, 0}, older_large = {4294967296u, 8};
+static const struct pusmarke_form newer = {0, 0, 0}, newer_large = {0, UINT64_MAX, 0}, older = {2, 0, 0}, older_large = {4294967296u, 8, 0};
+static const struct pusmarke_form newer_crc = {0, 0, 2}, large_crc = {0, 1, UINT64_MAX}, older_crc = {1, 0, 4294967296u};
+static const struct pusmarke_form older_large_crc = {1, 1, 1};
 
 /* Document 01's example packet. */
 static const uint8_t example[32] = {0x28, 0x00, 0x19, 0x00, 0x01, 0x07, 0x02, 0x08, 0x00, 0x00, 0x00, 0x00, 0x00, 0x00, 0x03, 0xe8,
@@ -661,7 +663,7 @@ static void writing(void) {
 static int nothing_read(struct pusmarke_nak n, uint64_t refusal, uint64_t start, uint64_t end, size_t length) {
     return n.refusal == refusal && n.start == start && n.end == end && n.identity.entity_length == 0
         && n.identity.number_length == 0 && n.identity.source == 0 && n.identity.number == 0 && n.identity.destination == 0
-        && n.large == 0 && n.scope_start == 0 && n.scope_end == 0 && n.from == 0 && n.to == 0 && n.next == length;
+        && n.large == 0 && n.crc == 0 && n.scope_start == 0 && n.scope_end == 0 && n.from == 0 && n.to == 0 && n.next == length;
 }
 
 /* The example with one octet changed. */
@@ -680,7 +682,7 @@ static void reading(void) {
     struct pusmarke_nak n = pusmarke_read(example, sizeof example, 0);
     uint8_t packet[32];
 
-    HOLDS(n.refusal == 0 && n.start == 0 && n.end == 0 && n.large == 0 && n.scope_start == 0 && n.scope_end == 1000);
+    HOLDS(n.refusal == 0 && n.start == 0 && n.end == 0 && n.large == 0 && n.crc == 0 && n.scope_start == 0 && n.scope_end == 1000);
     HOLDS(n.identity.entity_length == 1 && n.identity.number_length == 1 && n.identity.source == 1 && n.identity.number == 7
         && n.identity.destination == 2);
     HOLDS(n.from == 16 && n.to == 32 && n.next == 16);
@@ -740,7 +742,7 @@ static void editions(void) {
     const uint64_t turned[2] = {200, 100};
     const uint64_t empty[2] = {5, 5};
     static uint64_t many[2 * 255];
-    const struct pusmarke_form every[3] = {{0, 0}, {0, 1}, {1, 0}};
+    const struct pusmarke_form every[3] = {{0, 0, 0}, {0, 1, 0}, {1, 0, 0}};
     static const uint8_t first[3] = {0x28, 0x29, 0x08};
     struct pusmarke_identity bad = identity;
     struct pusmarke_nak n;
@@ -779,17 +781,26 @@ static void editions(void) {
         ACCEPTED(pusmarke_write(identity, every[i], 0, 1000, requests, 4, buf, length), length, 0, 0);
         HOLDS(buf[0] == first[i]);
         n = pusmarke_read(buf, length, every[i].older);
-        HOLDS(n.refusal == 0 && n.large == every[i].large && n.scope_start == 0 && n.scope_end == 1000 && n.to == length);
+        HOLDS(n.refusal == 0 && n.large == every[i].large && n.crc == 0 && n.scope_start == 0 && n.scope_end == 1000 && n.to == length);
         HOLDS(nothing_read(pusmarke_read(buf, length, !every[i].older), PUSMARKE_BAD_HEADER, 0, 0, length));
     }
 
-    /* of all first octets the newer edition takes 28 and 29, the older 08; a step asks for the lowest bit alone */
+    /* of all first octets the newer edition takes 28 and 29, the older 08; with the CRC flag, 2a and 2b or 0a, 00 02 is no right trailer */
     memcpy(packet, of_both, sizeof packet);
     for (octet = 0; octet < 256; octet++) {
         packet[0] = (uint8_t)octet;
-        HOLDS(pusmarke_read(packet, 40, 0).refusal == (octet == 0x28 || octet == 0x29 ? PUSMARKE_ACCEPTED : PUSMARKE_BAD_HEADER));
-        HOLDS(pusmarke_read(packet, 40, 1).refusal == (octet == 0x08 ? PUSMARKE_ACCEPTED : PUSMARKE_BAD_HEADER));
-        HOLDS(step_is(pusmarke_next(packet, 40, 24), 1, octet % 2, octet % 2 ? 2 : 1, octet % 2 ? 40 : 32));
+        HOLDS(pusmarke_read(packet, 40, 0).refusal == (octet == 0x28 || octet == 0x29 ? PUSMARKE_ACCEPTED
+            : octet == 0x2a || octet == 0x2b ? PUSMARKE_BAD_TRAILER : PUSMARKE_BAD_HEADER));
+        HOLDS(pusmarke_read(packet, 40, 1).refusal == (octet == 0x08 ? PUSMARKE_ACCEPTED : octet == 0x0a ? PUSMARKE_BAD_TRAILER
+            : PUSMARKE_BAD_HEADER));
+        /* a step asks for the two lowest bits alone: with a trailer of two octets the fields of 8 do not fit from 24 on */
+        if (octet % 4 == 3) {
+            HOLDS(step_is(pusmarke_next(packet, 40, 24), 0, 0, 0, 24));
+            HOLDS(step_is(pusmarke_next(packet, 40, 22), 1, 0, (uint64_t)1 << 48, 38));
+        } else {
+            HOLDS(step_is(pusmarke_next(packet, 40, 24), 1, octet % 2, octet % 2 ? 2 : 1, octet % 2 ? 40 : 32));
+        }
+        HOLDS(step_is(pusmarke_next(packet, 40, 32), octet % 4 == 0, 0, octet % 4 == 0 ? 2 : 0, octet % 4 == 0 ? 40 : 32));
     }
 
     /* the large flag of the older edition: behind 10 and 13, before all others */
@@ -819,6 +830,192 @@ static void editions(void) {
     REFUSED(pusmarke_write(identity, older, 0, 4294967296u, requests, 4, buf, 32), PUSMARKE_LARGE_SEGMENT_FOR_NORMAL_FILE_SIZE);
     CARRIES(pusmarke_write(identity, older, 0, 1000, requests, 4, buf, 31), PUSMARKE_BUFFER_SIZE_MISSMATCH, 32, 31);
     SAME(kept, buf);
+}
+
+/* The example under the CRC flag: the length field counts the trailer, 02 65. */
+static const uint8_t crc_example[34] = {0x2a, 0x00, 0x1b, 0x00, 0x01, 0x07, 0x02, 0x08, 0x00, 0x00, 0x00, 0x00, 0x00, 0x00, 0x03, 0xe8, 0x00,
+    0x00, 0x00, 0x00, 0x00, 0x00, 0x00, 0x00, 0x00, 0x00, 0x00, 0x64, 0x00, 0x00, 0x00, 0xc8, 0x02, 0x65};
+
+/* The CRC by its definition, bit by bit: the polynomial 1021 hex from FFFF on. */
+static unsigned crc_of(const uint8_t *octets, size_t length) {
+    unsigned remainder = 0xffff;
+    size_t i;
+    int bit;
+    for (i = 0; i < length; i++) {
+        for (bit = 7; bit >= 0; bit--) {
+            unsigned out = (remainder >> 15 ^ octets[i] >> bit) & 1;
+            remainder = (remainder << 1 & 0xffff) ^ (out ? 0x1021 : 0);
+        }
+    }
+    return remainder;
+}
+
+/* Puts the right trailer behind the first octets; hands back the length of all. */
+static size_t seal(uint8_t *packet, size_t before) {
+    unsigned crc = crc_of(packet, before);
+    packet[before] = (uint8_t)(crc >> 8);
+    packet[before + 1] = (uint8_t)crc;
+    return before + 2;
+}
+
+/* Is the packet of these octets and a trailer refused so where the trailer is wrong, and so where it is right? */
+static int refused_with(const uint8_t *before, size_t length, uint64_t wrong_trailer, uint64_t right_trailer) {
+    uint8_t packet[64];
+    memcpy(packet, before, length);
+    seal(packet, length);
+    packet[length + 1] ^= 0x10;
+    if (!nothing_read(pusmarke_read(packet, length + 2, 0), wrong_trailer, 0, 0, length + 2)) {
+        return 0;
+    }
+    packet[length + 1] ^= 0x10;
+    return nothing_read(pusmarke_read(packet, length + 2, 0), right_trailer, 0, 0, length + 2);
+}
+
+/* PDUs with the CRC trailer. */
+static void trailers(void) {
+    const uint64_t requests[4] = {0, 0, 100, 200};
+    static uint64_t many[2 * 510];
+    const struct pusmarke_form every[3] = {{0, 0, 1}, {0, 1, 1}, {1, 0, 1}}, plain[3] = {{0, 0, 0}, {0, 1, 0}, {1, 0, 0}};
+    static const uint8_t first[3] = {0x2a, 0x2b, 0x0a};
+    const uint8_t below[3][8] = {{0x2a, 0, 0, 0, 1, 7, 2}, {0x2a, 0, 1, 0, 1, 7, 2, 8}, {0x28, 0, 1, 0, 1, 7, 2, 9}};
+    const uint8_t two[7] = {0x2a, 0, 2, 0, 1, 7, 2}, code[8] = {0x2a, 0, 3, 0, 1, 7, 2, 9}, short_field[8] = {0x2a, 0, 3, 0, 1, 7, 2, 8};
+    const uint8_t fixed_bit[8] = {0x6a, 0, 3, 0, 1, 7, 2, 9}, length_off[8] = {0x2a, 0, 4, 0, 1, 7, 2, 9};
+    uint8_t buf[58], kept[58], packet[58], other[56];
+    struct pusmarke_nak n;
+    size_t i, bit, length;
+
+    /* the published check value, and the example's */
+    HOLDS(crc_of((const uint8_t *)"123456789", 9) == 0x29b1);
+    HOLDS(crc_of(crc_example, 32) == 0x0265);
+    ACCEPTED(pusmarke_write(identity, newer_crc, 0, 1000, requests, 4, buf, 34), 34, 0, 0);
+    HOLDS(memcmp(buf, crc_example, 34) == 0);
+    n = pusmarke_read(crc_example, 34, 0);
+    HOLDS(n.refusal == 0 && n.start == 0 && n.end == 0 && n.large == 0 && n.crc == 1 && n.scope_start == 0 && n.scope_end == 1000);
+    HOLDS(n.identity.entity_length == 1 && n.identity.number_length == 1 && n.identity.source == 1 && n.identity.number == 7
+        && n.identity.destination == 2);
+    HOLDS(n.from == 16 && n.to == 32 && n.next == 16);
+    /* the trailer is in no step: two octets are left out at the end, right or wrong */
+    HOLDS(step_is(pusmarke_next(crc_example, 34, 16), 1, 0, 0, 24));
+    HOLDS(step_is(pusmarke_next(crc_example, 34, 24), 1, 100, 200, 32));
+    HOLDS(step_is(pusmarke_next(crc_example, 34, 32), 0, 0, 0, 32));
+    HOLDS(step_is(pusmarke_next(crc_example, 33, 24), 0, 0, 0, 24));
+    HOLDS(step_is(pusmarke_next(crc_example, 34, 25), 0, 0, 0, 25));
+    HOLDS(step_is(pusmarke_next(crc_example, 34, SIZE_MAX), 0, 0, 0, SIZE_MAX));
+    HOLDS(step_is(pusmarke_next(crc_example, 2, 0), 0, 0, 0, 0) && step_is(pusmarke_next(crc_example, 1, 0), 0, 0, 0, 0));
+
+    /* each form: the plain packet with 2 added to its first octet and its length field, and two octets behind */
+    for (i = 0; i < 3; i++) {
+        length = every[i].large ? 58 : 34;
+        ACCEPTED(pusmarke_write(identity, every[i], 0, 1000, requests, 4, buf, length), length, 0, 0);
+        ACCEPTED(pusmarke_write(identity, plain[i], 0, 1000, requests, 4, other, length - 2), length - 2, 0, 0);
+        HOLDS(buf[0] == first[i] && buf[1] == 0 && buf[2] == length - 7 && other[0] == (first[i] ^ 2) && other[2] == length - 9);
+        HOLDS(memcmp(buf + 3, other + 3, length - 5) == 0);
+        HOLDS(buf[length - 2] == crc_of(buf, length - 2) >> 8 && buf[length - 1] == (crc_of(buf, length - 2) & 0xff));
+        n = pusmarke_read(buf, length, every[i].older);
+        HOLDS(n.refusal == 0 && n.large == every[i].large && n.crc == 1 && n.scope_end == 1000 && n.to == length - 2);
+        HOLDS(nothing_read(pusmarke_read(buf, length, !every[i].older), PUSMARKE_BAD_HEADER, 0, 0, length));
+    }
+    ACCEPTED(pusmarke_write(identity, older_crc, 0, 1000, requests, 4, buf, 34), 34, 0, 0);
+    HOLDS(buf[0] == 0x0a && pusmarke_read(buf, 34, 1).crc == 1);
+    ACCEPTED(pusmarke_write(identity, large_crc, 0, 1000, requests, 4, buf, 58), 58, 0, 0);
+    HOLDS(buf[0] == 0x2b && pusmarke_read(buf, 58, 0).crc == 1);
+
+    /* one bit turned, anywhere: never read; behind octet 3 it is the trailer that says so */
+    for (bit = 0; bit < 34 * 8; bit++) {
+        memcpy(packet, crc_example, 34);
+        packet[bit / 8] ^= (uint8_t)(1u << bit % 8);
+        n = pusmarke_read(packet, 34, 0);
+        HOLDS(n.refusal == PUSMARKE_BAD_TRAILER || (bit < 32 && (n.refusal == PUSMARKE_BAD_HEADER || n.refusal == PUSMARKE_LENGTH_MISMATCH)));
+    }
+    /* the octets swapped; one and both of them missing; the flag taken away, and set on a plain packet */
+    memcpy(packet, crc_example, 34);
+    packet[32] = 0x65;
+    packet[33] = 0x02;
+    HOLDS(nothing_read(pusmarke_read(packet, 34, 0), PUSMARKE_BAD_TRAILER, 0, 0, 34));
+    HOLDS(nothing_read(pusmarke_read(crc_example, 33, 0), PUSMARKE_LENGTH_MISMATCH, 0, 0, 33));
+    HOLDS(nothing_read(pusmarke_read(crc_example, 32, 0), PUSMARKE_LENGTH_MISMATCH, 0, 0, 32));
+    memcpy(packet, crc_example, 34);
+    packet[0] = 0x28;
+    HOLDS(nothing_read(pusmarke_read(packet, 34, 0), PUSMARKE_LENGTH_MISMATCH, 0, 0, 34));
+    HOLDS(nothing_read(damaged(0, 0x2a), PUSMARKE_BAD_TRAILER, 0, 0, 32));
+
+    /* a length field of 0, 1 and 2 is 16, with the octets stated; of 3, 21, then 17, then 16; 15 and a length that is off come before */
+    HOLDS(nothing_read(pusmarke_read(below[0], 7, 0), PUSMARKE_LENGTH_MISMATCH, 0, 0, 7));
+    HOLDS(nothing_read(pusmarke_read(below[1], 8, 0), PUSMARKE_LENGTH_MISMATCH, 0, 0, 8));
+    HOLDS(nothing_read(pusmarke_read(below[2], 8, 0), PUSMARKE_NOT_NAK, 0, 0, 8));
+    HOLDS(refused_with(two, 7, PUSMARKE_LENGTH_MISMATCH, PUSMARKE_LENGTH_MISMATCH));
+    HOLDS(refused_with(code, 8, PUSMARKE_BAD_TRAILER, PUSMARKE_NOT_NAK));
+    HOLDS(refused_with(short_field, 8, PUSMARKE_BAD_TRAILER, PUSMARKE_LENGTH_MISMATCH));
+    HOLDS(refused_with(length_off, 8, PUSMARKE_LENGTH_MISMATCH, PUSMARKE_LENGTH_MISMATCH));
+    HOLDS(refused_with(fixed_bit, 8, PUSMARKE_BAD_HEADER, PUSMARKE_BAD_HEADER));
+    /* 21 before 18 and 2, and before the second 16 */
+    memcpy(packet, crc_example, 34);
+    packet[8] = 0xff;
+    HOLDS(refused_with(packet, 32, PUSMARKE_BAD_TRAILER, PUSMARKE_SCOPE_REVERSED));
+    memcpy(packet, crc_example, 34);
+    packet[31] = 0x64;
+    HOLDS(refused_with(packet, 32, PUSMARKE_BAD_TRAILER, PUSMARKE_EMPTY_SEGMENT));
+    memcpy(packet, crc_example, 34);
+    packet[2] = 0x19;
+    HOLDS(refused_with(packet, 30, PUSMARKE_BAD_TRAILER, PUSMARKE_LENGTH_MISMATCH));
+
+    /* totals count the trailer: 509 requests make 4,090 octets, 510 make 4,098, and without a trailer 4,096 */
+    for (i = 0; i < 510; i++) {
+        many[2 * i] = 2 * i + 1;
+        many[2 * i + 1] = 2 * i + 2;
+    }
+    memset(buf, 0xaa, sizeof buf);
+    memcpy(kept, buf, sizeof buf);
+    REFUSED(pusmarke_write(identity, newer_crc, 0, 2000, many, 2 * 510, large_buffer, 4098), PUSMARKE_PDU_SIZE);
+    CARRIES(pusmarke_write(identity, newer_crc, 0, 2000, many, 2 * 509, buf, 58), PUSMARKE_BUFFER_SIZE_MISSMATCH, 4090, 58);
+    CARRIES(pusmarke_write(identity, newer_crc, 0, 1000, requests, 4, buf, 32), PUSMARKE_BUFFER_SIZE_MISSMATCH, 34, 32);
+    CARRIES(pusmarke_write(identity, newer_crc, 0, 1000, requests, 4, buf, 35), PUSMARKE_BUFFER_SIZE_MISSMATCH, 34, 35);
+    CARRIES(pusmarke_write(identity, newer_crc, 0, 1000, NULL, 0, NULL, 0), PUSMARKE_BUFFER_SIZE_MISSMATCH, 18, 0);
+    REFUSED(pusmarke_write(identity, older_large_crc, 0, 1000, requests, 4, buf, 58), PUSMARKE_BAD_HEADER);
+    SAME(kept, buf);
+    ACCEPTED(pusmarke_write(identity, newer_crc, 0, 2000, many, 2 * 509, large_buffer, 4090), 4090, 0, 0);
+    HOLDS(pusmarke_read(large_buffer, 4090, 0).refusal == PUSMARKE_ACCEPTED);
+    ACCEPTED(pusmarke_write(identity, newer, 0, 2000, many, 2 * 510, large_buffer, 4096), 4096, 0, 0);
+    /* the same octets under the flag, with a right trailer: too long by it */
+    large_buffer[0] = 0x2a;
+    large_buffer[1] = 0x0f;
+    large_buffer[2] = 0xfb;
+    HOLDS(nothing_read(pusmarke_read(large_buffer, seal(large_buffer, 4096), 0), PUSMARKE_PDU_SIZE, 0, 0, 4098));
+    large_buffer[4097] ^= 1;
+    HOLDS(nothing_read(pusmarke_read(large_buffer, 4098, 0), PUSMARKE_BAD_TRAILER, 0, 0, 4098));
+}
+
+/* The sequence with a trailer: P = 25 is 14, 26 and 32 have room for one request, 34 for two. */
+static void crc_sequence(void) {
+    const uint64_t list[2] = {0, 1000};
+    const struct pusmarke_reception r = {1000, 1, 0, 1, 0, 0};
+    uint8_t buf[128], kept[128];
+    const uint8_t both[32] = {0x2a, 0, 0x1b, 0, 1, 7, 2, 8, 0, 0, 0, 0, 0, 0, 0x03, 0xe8, 0, 0, 0, 0, 0, 0, 0, 0, 0, 0, 0, 0, 0, 0, 0x03, 0xe8};
+    size_t p;
+
+    memset(buf, 0xaa, sizeof buf);
+    memcpy(kept, buf, sizeof buf);
+    REFUSED(pusmarke_nak_sequence(r, list, 2, identity, newer_crc, 25, 0, 2, buf, 128), PUSMARKE_PDU_SIZE);
+    REFUSED(pusmarke_nak_sequence(r, list, 2, identity, newer_crc, 4097, 0, 2, buf, 128), PUSMARKE_PDU_SIZE);
+    REFUSED(pusmarke_nak_sequence(r, list, 2, identity, large_crc, 41, 0, 2, buf, 128), PUSMARKE_PDU_SIZE);
+    REFUSED(pusmarke_nak_sequence(r, list, 2, identity, older_large_crc, 42, 0, 2, buf, 128), PUSMARKE_BAD_HEADER);
+    CARRIES(pusmarke_nak_sequence(r, list, 2, identity, newer_crc, 34, 0, 2, buf, 67), PUSMARKE_BUFFER_SIZE_MISSMATCH, 68, 67);
+    SAME(kept, buf);
+    for (p = 26; p < 34; p++) {
+        ACCEPTED(pusmarke_nak_sequence(r, list, 2, identity, newer_crc, p, 0, 2, buf, 128), 2, 52, 2);
+        HOLDS(pusmarke_read(buf, 26, 0).refusal == 0 && pusmarke_read(buf + 26, 26, 0).refusal == 0);
+        HOLDS(buf[0] == 0x2a && buf[26] == 0x2a && buf[2] == 0x13 && pusmarke_read(buf + 26, 26, 0).crc == 1);
+    }
+    memset(buf, 0xaa, sizeof buf);
+    ACCEPTED(pusmarke_nak_sequence(r, list, 2, identity, newer_crc, 34, 0, 2, buf, 128), 1, 34, 2);
+    HOLDS(memcmp(buf, both, 32) == 0 && buf[32] == crc_of(buf, 32) >> 8 && buf[33] == (crc_of(buf, 32) & 0xff));
+    HOLDS(memcmp(buf + 34, kept + 34, 94) == 0);
+    ACCEPTED(pusmarke_nak_sequence(r, list, 2, identity, newer, 32, 0, 2, buf, 128), 1, 32, 2);
+    ACCEPTED(pusmarke_nak_sequence(r, list, 2, identity, older_crc, 34, 0, 1, buf, 128), 1, 34, 2);
+    HOLDS(buf[0] == 0x0a && pusmarke_read(buf, 34, 1).crc == 1);
+    ACCEPTED(pusmarke_nak_sequence(r, list, 2, identity, large_crc, 42, 0, 2, buf, 128), 2, 84, 2);
+    HOLDS(buf[0] == 0x2b && pusmarke_read(buf, 42, 0).crc == 1 && pusmarke_read(buf + 42, 42, 0).refusal == 0);
+    ACCEPTED(pusmarke_nak_sequence(r, list, 2, identity, large_crc, 58, 0, 2, buf, 128), 1, 58, 2);
 }
 
 /* The sequence of the older edition: the octets of the newer one but for the first of each PDU. */
@@ -982,8 +1179,10 @@ int main(void) {
     writing();
     reading();
     editions();
+    trailers();
     sequence();
     older_sequence();
+    crc_sequence();
     transfer();
     printf("%u checks, %u wrong\n", checks, wrong);
     return wrong == 0 ? 0 : 1;

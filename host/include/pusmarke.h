@@ -10,7 +10,9 @@
  * the first `count` pairs of a list; its capacity is the list's length in pairs, 4,096 at most. A store is narrow where `narrow` is
  * not 0: then no number of it is above 4,294,967,295. The large file flag is set where `large` is not 0: then an offset in a PDU has
  * F = 8 octets, else 4. A PDU is of the older edition where `older` is not 0: its version bits are 000 where the newer edition's are 001,
- * and the bit of the large file flag is reserved and clear. Neither edition's reader accepts a packet of the other.
+ * and the bit of the large file flag is reserved and clear. Neither edition's reader accepts a packet of the other. A PDU with the CRC
+ * flag (bit 2 of octet 0, value 2) ends in a trailer of two octets, high first: the CRC of all octets before it, by the polynomial 1021 hex
+ * from FFFF on (CRC-16/CCITT-FALSE). The length field counts it; it is in no request.
  *
  * Every number may have any value: what does not fit is refused by number. A refused call changes nothing that it is lent.
  * Refusals are looked for in the order in which each function lists them. */
@@ -47,6 +49,7 @@ enum pusmarke_refusal {
     PUSMARKE_SCOPE_REVERSED = 18,
     PUSMARKE_ALREADY_KNOWN = 19,
     PUSMARKE_BUDGET_TOO_LARGE = 20,
+    PUSMARKE_BAD_TRAILER = 21,
     PUSMARKE_FILE_SIZE_ERROR = 22
 };
 
@@ -87,11 +90,12 @@ struct pusmarke_identity {
     uint64_t destination;
 };
 
-/* What a link fixes about the shape of its PDUs. Of both, 0 is no and any other number is yes: all zero is the newer edition with offsets
- * of 4 octets. */
+/* What a link fixes about the shape of its PDUs. Of each, 0 is no and any other number is yes: all zero is the newer edition with offsets
+ * of 4 octets and no trailer. */
 struct pusmarke_form {
     uint64_t older; /* the older edition, which has no large file flag */
     uint64_t large; /* the large file flag */
+    uint64_t crc;   /* the CRC flag: a trailer of two octets */
 };
 
 /* What pusmarke_read hands back. */
@@ -101,6 +105,7 @@ struct pusmarke_nak {
     uint64_t end;
     struct pusmarke_identity identity;
     uint64_t large;   /* 0 or 1; 0 of every packet of the older edition */
+    uint64_t crc;     /* 0 or 1: whether it has the CRC flag, and so a trailer */
     uint64_t scope_start;
     uint64_t scope_end;
     size_t from;      /* the octets of the requests: from `from` up to, not including, `to` */
@@ -205,36 +210,38 @@ struct pusmarke_answer pusmarke_missing_octets(struct pusmarke_reception record,
  * any place, once. */
 
 /* Writes one NAK PDU of this identity, form, scope and flat list of requests, which may be empty.
- * Accepted: first is the octets written, all of the buffer: H + 1 + 2F and 2F for each request.
+ * Accepted: first is the octets written, all of the buffer: H + 1 + 2F, 2F for each request, and 2 for the trailer if there is one.
  * Refusals: 10 a list of odd length or of more than 4,096 pairs; 13; 15 the older edition with the large file flag; 18 scope start above
  * scope end; then request by request, 3 start above end or 2 start equals end, but for the first (0, 0) among them; 7 normal flag, and a
- * number of the scope or of a request above 4,294,967,295; 14 the PDU above 4,096 octets; 6 the buffer is not exactly as long as the
- * PDU. */
+ * number of the scope or of a request above 4,294,967,295; 14 the PDU, with its trailer, above 4,096 octets; 6 the buffer is not exactly as
+ * long as the PDU. */
 struct pusmarke_answer pusmarke_write(struct pusmarke_identity identity, struct pusmarke_form form, uint64_t scope_start,
     uint64_t scope_end, const uint64_t *requests, size_t requests_length, uint8_t *buffer, size_t buffer_length);
 
-/* Reads one NAK PDU of the older edition where `older` is not 0, else of the newer.
- * Accepted: what it says. Its requests are the packet's own octets from `from` up to `to`.
+/* Reads one NAK PDU of the older edition where `older` is not 0, else of the newer; with a trailer where it has the CRC flag, else without.
+ * Accepted: what it says. Its requests are the packet's own octets from `from` up to `to`, where the trailer begins if there is one.
  * Refused: the number, what refusal 3 carries, `next` the packet's length, and all else 0.
  * Refusals: 16 below 4 octets; 15 a fixed bit of octets 0 and 3 wrong, among them the version bits, and of the older edition the lowest bit
- * of octet 0; 16 the packet is not H octets and its length field's, or that is 0; 17 directive code not 8; 16 the data field is not 1 + 2F
- * octets and whole requests; 18 scope start above scope end; then request by request, 3 and 2 as in pusmarke_write; 14 above 4,096
- * octets. */
+ * of octet 0; 16 the packet is not H octets and its length field's, or that is 0, with the CRC flag below 3; 21 the CRC flag, and the
+ * trailer is not the CRC of all octets before it; 17 directive code not 8; 16 the data field without its trailer is not 1 + 2F octets and
+ * whole requests; 18 scope start above scope end; then request by request, 3 and 2 as in pusmarke_write; 14 above 4,096 octets, the trailer
+ * counted. */
 struct pusmarke_nak pusmarke_read(const uint8_t *packet, size_t packet_length, uint64_t older);
 
 /* The request at a place of a packet, and the place behind it. Start at `next` of pusmarke_read and go on at `at`, until the end is
- * found: fewer than 2F octets from the place to the packet's end, F by the lowest bit of octet 0, whatever the edition. At the end `at`
- * stays. Any octets and any place are fine. */
+ * found: fewer than 2F octets from the place to the packet's end without its trailer, F by the lowest bit of octet 0, the trailer of two
+ * octets by the bit above it, whatever the edition and whatever the trailer's octets. At the end `at` stays. Any octets and any place are
+ * fine. */
 struct pusmarke_step pusmarke_next(const uint8_t *packet, size_t packet_length, size_t at);
 
 /* The NAK sequence: PDUs of at most `largest` octets that ask for all that is missing, at most `budget` of them, back to back.
  * The entries are (0, 0) if metadata is missing, then the list. A PDU takes the next k of them, k = (largest - H - 1 - 2F) / 2F rounded
- * down. The first call has cursor 0, each later one the cursor that the last one gave; at the end the cursor is the number of entries,
- * and no PDU is written.
+ * down, with the CRC flag (largest - H - 3 - 2F) / 2F. The first call has cursor 0, each later one the cursor that the last one gave; at
+ * the end the cursor is the number of entries, and no PDU is written.
  * Accepted: first is the PDUs, second the octets written, third the new cursor. Octets behind those written stay.
- * Refusals: those of a record; 13; 15 the older edition with the large file flag; 14 largest above 4,096 or below H + 1 + 4F, room for one
- * request; 7 normal flag, and progress or a counted number above 4,294,967,295; 11 cursor above the number of entries; 20 budget above 16;
- * 6 the buffer is shorter than budget times largest, which is the number needed. */
+ * Refusals: those of a record; 13; 15 the older edition with the large file flag; 14 largest above 4,096 or below H + 1 + 4F, with the CRC
+ * flag H + 3 + 4F, room for one request; 7 normal flag, and progress or a counted number above 4,294,967,295; 11 cursor above the number
+ * of entries; 20 budget above 16; 6 the buffer is shorter than budget times largest, which is the number needed. */
 struct pusmarke_answer pusmarke_nak_sequence(struct pusmarke_reception record, const uint64_t *list, size_t list_length,
     struct pusmarke_identity identity, struct pusmarke_form form, size_t largest, size_t cursor, size_t budget, uint8_t *buffer,
     size_t buffer_length);

@@ -43,6 +43,7 @@ pub struct Identity {
 pub(crate) struct Form {
     pub older: u64,
     pub large: u64,
+    pub crc: u64,
 }
 
 #[repr(C)]
@@ -53,6 +54,7 @@ pub(crate) struct Nak {
     pub end: u64,
     pub identity: Identity,
     pub large: u64,
+    pub crc: u64,
     pub scope_start: u64,
     pub scope_end: u64,
     pub from: usize,

@@ -3,8 +3,8 @@
 //!
 //! [`Store`] is the store of lost segments over a list that the caller lends, with the methods of cfdp-rs's `LostSegmentStore`.
 //! [`Reception`] keeps such a list by what comes, and says whether a range was kept. [`NakSequence`] writes the NAK PDUs that ask for
-//! what is missing, [`write_nak`] writes one, and [`NakReader`] reads one. What does not fit is refused: [`Refusal`] says why, and
-//! nothing lent changes.
+//! what is missing, [`write_nak`] writes one, and [`NakReader`] reads one; with a CRC trailer where the [`Form`] says so. What does not
+//! fit is refused: [`Refusal`] says why, and nothing lent changes.
 //!
 //! The crate allocates nothing, has no dependency and does not panic. The work is done by `libpusmarke_c.a`, whose functions are
 //! proved; the wrappers here are not.

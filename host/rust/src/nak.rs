@@ -41,14 +41,15 @@ impl Edition {
     }
 }
 
-/// What a link fixes about the shape of its PDUs; by default the newer edition with offsets of 4 octets. A [`FileFlag`] alone is a form
-/// of the newer edition, an [`Edition`] alone one with the normal flag.
+/// What a link fixes about the shape of its PDUs; by default the newer edition with offsets of 4 octets and no trailer. A [`FileFlag`]
+/// alone is a form of the newer edition, an [`Edition`] alone one with the normal flag, both without a trailer.
 ///
 /// ```
 /// # use pusmarke::{Edition, FileFlag, Form};
-/// assert_eq!(Form::from(FileFlag::Large), Form { edition: Edition::Newer, file_flag: FileFlag::Large });
-/// assert_eq!(Form::from(Edition::Older), Form { edition: Edition::Older, file_flag: FileFlag::Normal });
+/// assert_eq!(Form::from(FileFlag::Large), Form { edition: Edition::Newer, file_flag: FileFlag::Large, crc: false });
+/// assert_eq!(Form::from(Edition::Older), Form { edition: Edition::Older, file_flag: FileFlag::Normal, crc: false });
 /// assert_eq!(Form::from(FileFlag::Normal), Form::default());
+/// assert_eq!(Form { crc: true, ..Edition::Older.into() }, Form { edition: Edition::Older, file_flag: FileFlag::Normal, crc: true });
 /// ```
 #[derive(Clone, Copy, Debug, Default, PartialEq, Eq)]
 pub struct Form {
@@ -56,11 +57,13 @@ pub struct Form {
     pub edition: Edition,
     /// The large file flag.
     pub file_flag: FileFlag,
+    /// The CRC flag: each PDU ends in a trailer of two octets, the CRC of those before it.
+    pub crc: bool,
 }
 
 impl Form {
     pub(crate) fn marks(self) -> ffi::Form {
-        ffi::Form { older: self.edition.mark(), large: self.file_flag.mark() }
+        ffi::Form { older: self.edition.mark(), large: self.file_flag.mark(), crc: self.crc.into() }
     }
 }
 
@@ -76,8 +79,9 @@ impl From<Edition> for Form {
     }
 }
 
-/// Writes one NAK PDU into a buffer of exactly its length, and says that length. `requests` is flat, start and end by turns; (0, 0)
-/// asks for metadata, at any place, once. Refused: 10, 13, 15 (the older edition with the large flag), 18, 3, 2, 7, 14 and 6.
+/// Writes one NAK PDU into a buffer of exactly its length, the trailer counted, and says that length. `requests` is flat, start and end
+/// by turns; (0, 0) asks for metadata, at any place, once. Refused: 10, 13, 15 (the older edition with the large flag), 18, 3, 2, 7, 14
+/// and 6.
 pub fn write_nak(
     identity: Identity,
     form: impl Into<Form>,
@@ -110,7 +114,8 @@ pub struct NakReader<'p> {
 }
 
 impl<'p> NakReader<'p> {
-    /// Reads a packet of that edition. Refused: 16, 15 (also where it is one of the other edition), 17, 18, 3, 2 and 14.
+    /// Reads a packet of that edition, with or without a trailer as its CRC flag says. Refused: 16, 15 (also where it is one of the other
+    /// edition), 21 (a wrong trailer), 17, 18, 3, 2 and 14.
     ///
     /// ```
     /// # use pusmarke::{write_nak, Edition, Identity, NakReader, Refusal};
@@ -145,12 +150,17 @@ impl<'p> NakReader<'p> {
         }
     }
 
+    /// Whether it has the CRC flag, and so a trailer, which was right.
+    pub fn has_crc(&self) -> bool {
+        self.nak.crc != 0
+    }
+
     /// Scope start and scope end.
     pub fn scope(&self) -> (u64, u64) {
         (self.nak.scope_start, self.nak.scope_end)
     }
 
-    /// All requests, as the packet's own octets.
+    /// All requests, as the packet's own octets; the trailer is not among them.
     pub fn request_octets(&self) -> &'p [u8] {
         self.packet.get(self.nak.from..self.nak.to).unwrap_or(&[])
     }

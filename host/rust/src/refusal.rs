@@ -37,11 +37,11 @@ pub enum Refusal {
     ScopeBelowList,
     /// 13: an identifier length outside 1 to 8, or a number that does not fit it.
     BadIdentity,
-    /// 14: a PDU or the largest PDU above 4,096 octets, or the largest PDU below room for one request.
+    /// 14: a PDU (its trailer counted) or the largest PDU above 4,096 octets, or the largest PDU below room for one request.
     PduSize,
     /// 15: a fixed bit of the header is wrong, among them the edition's; the large flag in the older edition.
     BadHeader,
-    /// 16: the packet has not the length that its header says, or its data field not a whole number of requests.
+    /// 16: the packet has not the length that its header says, or its data field (without the trailer) not a whole number of requests.
     LengthMismatch,
     /// 17: the directive code is not that of a NAK PDU.
     NotNak,
@@ -51,6 +51,8 @@ pub enum Refusal {
     AlreadyKnown,
     /// 20: the budget is above 16.
     BudgetTooLarge,
+    /// 21: the packet has the CRC flag, and its last two octets are not the CRC of those before them.
+    BadTrailer,
     /// 22: a file size below progress, or another than the known one; data past the known size.
     FileSizeError,
     /// A number that this crate does not know: the archive is not the one that the crate belongs to.
@@ -82,6 +84,7 @@ impl Refusal {
             18 => Refusal::ScopeReversed,
             19 => Refusal::AlreadyKnown,
             20 => Refusal::BudgetTooLarge,
+            21 => Refusal::BadTrailer,
             22 => Refusal::FileSizeError,
             other => Refusal::Unknown(other),
         })
@@ -110,6 +113,7 @@ impl Refusal {
             Refusal::ScopeReversed => 18,
             Refusal::AlreadyKnown => 19,
             Refusal::BudgetTooLarge => 20,
+            Refusal::BadTrailer => 21,
             Refusal::FileSizeError => 22,
             Refusal::Unknown(number) => *number,
         }
@@ -149,6 +153,7 @@ impl fmt::Display for Refusal {
             Refusal::ScopeReversed => f.write_str("scope start is above scope end"),
             Refusal::AlreadyKnown => f.write_str("metadata is known already"),
             Refusal::BudgetTooLarge => f.write_str("budget is above 16 PDUs"),
+            Refusal::BadTrailer => f.write_str("trailer is not the CRC of the packet"),
             Refusal::FileSizeError => f.write_str("file size does not fit what came"),
             Refusal::Unknown(number) => write!(f, "number {number}, which this crate does not know"),
         }

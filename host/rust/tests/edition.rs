@@ -8,7 +8,7 @@ const REQUESTS: [u64; 4] = [0, 0, 100, 200];
 const FORMS: [(Edition, FileFlag, u8); 3] =
     [(Edition::Newer, FileFlag::Normal, 0x28), (Edition::Newer, FileFlag::Large, 0x29), (Edition::Older, FileFlag::Normal, 0x08)];
 
-const OLDER_LARGE: Form = Form { edition: Edition::Older, file_flag: FileFlag::Large };
+const OLDER_LARGE: Form = Form { edition: Edition::Older, file_flag: FileFlag::Large, crc: false };
 
 /// Document 01's example packet, of the older edition.
 const OLDER_EXAMPLE: [u8; 32] = [
@@ -25,9 +25,9 @@ fn other(edition: Edition) -> Edition {
 
 #[test]
 fn forms() {
-    assert_eq!(Form::default(), Form { edition: Edition::Newer, file_flag: FileFlag::Normal });
-    assert_eq!(Form::from(FileFlag::Large), Form { edition: Edition::Newer, file_flag: FileFlag::Large });
-    assert_eq!(Form::from(Edition::Older), Form { edition: Edition::Older, file_flag: FileFlag::Normal });
+    assert_eq!(Form::default(), Form { edition: Edition::Newer, file_flag: FileFlag::Normal, crc: false });
+    assert_eq!(Form::from(FileFlag::Large), Form { edition: Edition::Newer, file_flag: FileFlag::Large, crc: false });
+    assert_eq!(Form::from(Edition::Older), Form { edition: Edition::Older, file_flag: FileFlag::Normal, crc: false });
     assert_eq!((Form::from(FileFlag::Normal), Form::from(Edition::Newer)), (Form::default(), Form::default()));
 }
 
@@ -47,7 +47,7 @@ fn own_packets_alone() {
         let mut buf = [0; 56];
         let length = if file_flag == FileFlag::Large { 56 } else { 32 };
         let packet = &mut buf[..length];
-        assert_eq!(write_nak(IDENTITY, Form { edition, file_flag }, (0, 1000), &REQUESTS, packet), Ok(length));
+        assert_eq!(write_nak(IDENTITY, Form { edition, file_flag, crc: false }, (0, 1000), &REQUESTS, packet), Ok(length));
         assert_eq!(packet[0], first);
         let reader = NakReader::read(packet, edition).unwrap();
         assert_eq!((reader.file_flag(), reader.collect::<Vec<_>>()), (file_flag, vec![(0, 0), (100, 200)]));
@@ -66,12 +66,18 @@ fn first_octets() {
     for octet in 0..=255 {
         packet[0] = octet;
         let read = |edition| NakReader::read(&packet, edition).map(|reader| reader.collect::<Vec<_>>());
+        // With the CRC flag the last two octets are a trailer, and 00 02 is not the right one.
         let newer = match octet {
             0x28 => Ok(vec![(0, 0), (0, 1), (0, 2)]),
             0x29 => Ok(vec![(1, 2)]),
+            0x2A | 0x2B => Err(Refusal::BadTrailer),
             _ => Err(Refusal::BadHeader),
         };
-        let older = if octet == 0x08 { Ok(vec![(0, 0), (0, 1), (0, 2)]) } else { Err(Refusal::BadHeader) };
+        let older = match octet {
+            0x08 => Ok(vec![(0, 0), (0, 1), (0, 2)]),
+            0x0A => Err(Refusal::BadTrailer),
+            _ => Err(Refusal::BadHeader),
+        };
         assert_eq!((read(Edition::Newer), read(Edition::Older)), (newer, older), "{octet:02x}");
     }
 }
