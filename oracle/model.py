@@ -1,12 +1,15 @@
 #!/usr/bin/env python3
-"""A model of the console, written from document 01, document 02's C-12, C-14, C-16, C-19, C-20 and C-24 and the console's language alone.
+"""A model of the console, written from document 01, document 02's C-11, C-12, C-14, C-16, C-19, C-20 and C-24 and the console's language
+alone.
 
     model.py [SCRIPT]      answers the script (or standard input) as the program must
     model.py --self-test   holds the interval algebra and histories of events against plain sets of offsets, a PDU's requests
-                           against words of letters, and the two editions against each other
+                           against words of letters, the two editions against each other, and the CRC of a trailer against its
+                           published check value, against division of whole numbers, and against every single bit turned over
 
 Numbers are Python's, lists are lists of pairs; nothing here follows the Rust or the port.
 """
+import itertools
 import re
 import sys
 
@@ -90,6 +93,23 @@ def field(large):
     return 8 if large else 4
 
 
+def crc(octets):
+    """The remainder of these octets by x^16 + x^12 + x^5 + 1, preset to ones: bit after bit, the highest of each octet first."""
+    remainder = 0xffff
+    for octet in octets:
+        for place in range(7, -1, -1):
+            leaving = remainder >> 15 ^ octet >> place & 1
+            remainder = remainder << 1 & 0xffff
+            if leaving:
+                remainder ^= 0x1021
+    return remainder
+
+
+def trailer(flagged):
+    """How many octets it has."""
+    return 2 if flagged else 0
+
+
 def check_identity(identity):
     i, q, source, number, destination = identity
     for length in (i, q):
@@ -124,18 +144,20 @@ def version(older):
     return '000' if older else '001'
 
 
-def packet(identity, older, large, start, end, requests):
-    """The octets of one PDU."""
+def packet(identity, older, large, flagged, start, end, requests):
+    """The octets of one PDU. The length field counts the trailer."""
     i, q, source, number, destination = identity
     f = field(large)
     data = bytes([8]) + b''.join(n.to_bytes(f, 'big') for pair in [(start, end), *requests] for n in pair)
-    octet0 = int(version(older) + '0' + '1' + '0' + '0' + '01'[large], 2)
+    octet0 = int(version(older) + '0' + '1' + '0' + '01'[flagged] + '01'[large], 2)
     octet3 = int('0' + f'{i - 1:03b}' + '0' + f'{q - 1:03b}', 2)
-    return (bytes([octet0]) + len(data).to_bytes(2, 'big') + bytes([octet3])
-            + source.to_bytes(i, 'big') + number.to_bytes(q, 'big') + destination.to_bytes(i, 'big') + data)
+    stated = len(data) + trailer(flagged)
+    octets = (bytes([octet0]) + stated.to_bytes(2, 'big') + bytes([octet3])
+              + source.to_bytes(i, 'big') + number.to_bytes(q, 'big') + destination.to_bytes(i, 'big') + data)
+    return octets + (crc(octets).to_bytes(2, 'big') if flagged else b'')
 
 
-def write(identity, older, large, start, end, length, flat):
+def write(identity, older, large, flagged, start, end, length, flat):
     """One PDU into a buffer of that length, its requests a flat list."""
     if len(flat) % 2 or len(flat) > 2 * 4096:
         raise Refused(10)
@@ -147,29 +169,33 @@ def write(identity, older, large, start, end, length, flat):
     check_requests(requests)
     if not large and max([start, end, *flat]) > NARROW:
         raise Refused(7)
-    total = header_length(*identity[:2]) + 1 + 2 * field(large) * (1 + len(requests))
+    total = header_length(*identity[:2]) + 1 + 2 * field(large) * (1 + len(requests)) + trailer(flagged)
     if total > 4096:
         raise Refused(14)
     if length != total:
         raise Refused(6, total, length)
-    return packet(identity, older, large, start, end, requests)
+    return packet(identity, older, large, flagged, start, end, requests)
 
 
 def read(octets, older):
-    """What a packet of that edition says: identity, large, start, end, requests."""
+    """What a packet of that edition says: identity, large, flagged, start, end, requests."""
     if len(octets) < 4:
         raise Refused(16)
     first, third = f'{octets[0]:08b}', f'{octets[3]:08b}'
-    if first[:7] != version(older) + '0' + '1' + '0' + '0' or third[0] != '0' or third[4] != '0':
+    if first[:6] != version(older) + '0' + '1' + '0' or third[0] != '0' or third[4] != '0':
         raise Refused(15)
     if older and first[7] != '0':
         raise Refused(15)
-    large = first[7] == '1'
+    flagged, large = first[6] == '1', first[7] == '1'
     i, q = int(third[1:4], 2) + 1, int(third[5:], 2) + 1
     head, body = octets[:header_length(i, q)], octets[header_length(i, q):]
     stated = int.from_bytes(octets[1:3], 'big')
-    if len(octets) != header_length(i, q) + stated or stated == 0:
+    if len(octets) != header_length(i, q) + stated or stated < 1 + trailer(flagged):
         raise Refused(16)
+    if flagged:
+        if octets[-2:] != crc(octets[:-2]).to_bytes(2, 'big'):
+            raise Refused(21)
+        body = body[:-2]
     if body[0] != 8:
         raise Refused(17)
     f = field(large)
@@ -185,7 +211,7 @@ def read(octets, older):
         raise Refused(14)
     source, number, destination = head[4:4 + i], head[4 + i:4 + i + q], head[4 + i + q:]
     identity = [i, q] + [int.from_bytes(part, 'big') for part in (source, number, destination)]
-    return identity, large, start, end, requests
+    return identity, large, flagged, start, end, requests
 
 
 # Words of a line.
@@ -209,7 +235,7 @@ def choice(word, no, yes):
 class Console:
     def __init__(self):
         self.begin(False, 4096)
-        self.older = False  # the link's edition, which no `new` changes
+        self.older = self.crc = False  # the link's edition, and whether it has the trailer; no `new` changes them
 
     def begin(self, narrow, ranges):
         self.memory = [0] * MEMORY
@@ -395,7 +421,7 @@ class Console:
         check_identity(identity)
         check_flag(self.older, large)
         f = field(large)
-        fixed = header_length(*identity[:2]) + 1 + 2 * f
+        fixed = header_length(*identity[:2]) + 1 + 2 * f + trailer(self.crc)
         if largest > 4096 or largest < fixed + 2 * f:
             raise Refused(14)
         if not large and max([self.progress] + [n for pair in pairs for n in pair]) > NARROW:
@@ -414,7 +440,7 @@ class Console:
             start = 0 if cursor == 0 else entries[cursor - 1][1]
             cursor += len(taken)
             end = self.progress if cursor == len(entries) else taken[-1][1]
-            sent.append(packet(identity, self.older, large, start, end, taken))
+            sent.append(packet(identity, self.older, large, self.crc, start, end, taken))
         return [f'pdu {pdu.hex()}' for pdu in sent] + [f'sent {len(sent)} {sum(map(len, sent))} {cursor}']
 
     # The console's words.
@@ -459,10 +485,7 @@ class Console:
             return 'ok'
         if name == 'link':
             need(2)
-            older = choice(rest[0], 'newer', 'older')
-            if rest[1] != 'plain':
-                raise Malformed
-            self.older = older
+            self.older, self.crc = choice(rest[0], 'newer', 'older'), choice(rest[1], 'plain', 'crc')
             return 'ok'
         if name == 'show':
             need(0)
@@ -497,13 +520,14 @@ class Console:
             identity, large = [number(word) for word in rest[:5]], choice(rest[5], 'normal', 'large')
             start, end, length = number(rest[6]), number(rest[7]), number(rest[8], BUFFER)
             flat = [number(word) for word in rest[9:]]
-            return 'pdu ' + write(identity, self.older, large, start, end, length, flat).hex()
+            return 'pdu ' + write(identity, self.older, large, self.crc, start, end, length, flat).hex()
         if name == 'read':
             if len(rest) > 1 or rest and not IS_OCTETS(rest[0]):
                 raise Malformed
-            identity, large, start, end, requests = read(bytes.fromhex(rest[0] if rest else ''), self.older)
+            identity, large, flagged, start, end, requests = read(bytes.fromhex(rest[0] if rest else ''), self.older)
             numbers = [start, end] + [n for pair in requests for n in pair]
-            return ' '.join(['nak', *map(str, identity), 'large' if large else 'normal', 'plain', *map(str, numbers)])
+            marks = ['large' if large else 'normal', 'crc' if flagged else 'plain']
+            return ' '.join(['nak', *map(str, identity), *marks, *map(str, numbers)])
         if name == 'nak':
             need(10)
             identity, large = [number(word) for word in rest[:5]], choice(rest[5], 'normal', 'large')
@@ -686,7 +710,7 @@ class History:
     def asked(self):
         """The ranges that one full sequence asks for."""
         pdus = self.console.line(1, 'nak 1 1 1 7 2 normal 32 0 16 512')[:-1]
-        requests = [request for pdu in pdus for request in read(bytes.fromhex(pdu.split(' ')[1]), False)[4]]
+        requests = [request for pdu in pdus for request in read(bytes.fromhex(pdu.split(' ')[1]), False)[5]]
         return [request for request in requests if request != (0, 0)]
 
 
@@ -726,11 +750,11 @@ def refused_of_letters(word):
     return {'': None, 'r': 3}.get(word[fine:fine + 1], 2)
 
 
-def round_trip(older, large, requests):
+def round_trip(older, large, flagged, requests):
     """A PDU of these requests written and read: the requests that were read, and the number that both refuse it with."""
     identity, flat = [1, 1, 1, 7, 2], [n for pair in requests for n in pair]
-    octets, numbers = packet(identity, older, large, 0, 9, requests), []
-    for call, args in ((write, (identity, older, large, 0, 9, len(octets), flat)), (read, (octets, older))):
+    octets, numbers = packet(identity, older, large, flagged, 0, 9, requests), []
+    for call, args in ((write, (identity, older, large, flagged, 0, 9, len(octets), flat)), (read, (octets, older))):
         try:
             said = call(*args)
             assert call is read or said == octets, requests
@@ -739,7 +763,7 @@ def round_trip(older, large, requests):
             said = None
             numbers.append(refusal.words[0])
     assert numbers[0] == numbers[1], requests
-    return said and said[4], numbers[0]
+    return said and said[5], numbers[0]
 
 
 def refusal(call, *args):
@@ -752,7 +776,8 @@ def refusal(call, *args):
 
 def editions(rng):
     """C-20 said of octets: what one edition writes it reads, and the other refuses with 15, whatever the identity, flag and requests; the
-    older packet is the newer one with 08 for 28 in front; of the 256 first octets the newer edition takes 28 and 29, the older 08."""
+    older packet is the newer one with 08 for 28 in front; of the 256 first octets the newer edition takes 28 and 29, the older 08, and
+    asks for a trailer behind 2a, 2b and 0a."""
     done = 0
     for i, q, n in ((i, q, n) for i in range(1, 9) for q in range(1, 9) for n in range(4)):
         identity = [i, q, *(rng.choice((0, 1, 256**length - 1, rng.randrange(256**length))) for length in (i, q, i))]
@@ -761,26 +786,85 @@ def editions(rng):
             starts = [rng.choice((1, rng.randrange(1, top))) for _ in range(n + 1)]
             start, end, *flat = (x for s in starts for x in (s, rng.choice((s + 1, top))))
             total = 5 + 2 * i + q + (16 if large else 8) * (n + 1)
-            said = identity, older, large, start, end, total, flat
+            said = identity, older, large, False, start, end, total, flat
             if older and large:
                 assert refusal(write, *said) == [15], said
                 continue
             octets = write(*said)
             assert octets[0] == {(False, False): 0x28, (False, True): 0x29, (True, False): 0x08}[older, large], said
             assert large or octets[1:] == write(identity, not older, *said[2:])[1:], said
-            assert read(octets, older) == (identity, large, start, end, list(zip(flat[::2], flat[1::2]))), said
+            assert read(octets, older) == (identity, large, False, start, end, list(zip(flat[::2], flat[1::2]))), said
             assert refusal(read, octets, not older) == [15], said
             done += 1
     # Scope (0, 0) and, in fields of 4 octets, the requests (0, 0), (0, 1), (0, 2); of 8 octets, (1, 2).
     behind = bytes.fromhex('002100010702' + '08' + '00' * 16 + '0000000000000001' + '0000000000000002')
     for older, taken in ((False, (0x28, 0x29)), (True, (0x08,))):
-        assert [first for first in range(256) if refusal(read, bytes([first]) + behind, older) is None] == list(taken)
-        assert {*(str(refusal(read, bytes([first]) + behind, older)) for first in range(256))} == {'None', '[15]'}
+        said = [refusal(read, bytes([first]) + behind, older) for first in range(256)]
+        assert said == [None if first in taken else [21] if first - 2 in taken else [15] for first in range(256)]
+    return done
+
+
+def divided(octets):
+    """The CRC said of whole numbers: the octets as one polynomial over two elements, ones added to its first 16 bits, times x^16, divided by
+    x^16 + x^12 + x^5 + 1."""
+    bits = 8 * len(octets) + 16
+    number = int.from_bytes(octets, 'big') << 16 ^ 0xffff << bits - 16
+    for degree in range(bits - 1, 15, -1):
+        if number >> degree & 1:
+            number ^= 0x11021 << degree - 16
+    return number
+
+
+def turned(octets, bit):
+    """The octets with that bit turned over, counted from the highest of the first octet."""
+    return (int.from_bytes(octets, 'big') ^ 1 << 8 * len(octets) - 1 - bit).to_bytes(len(octets), 'big')
+
+
+def trailers(rng):
+    """C-11 said of octets. What is written with the flag is read with it, and is the plain packet with 2 added to its first octet and to its
+    length field and two octets behind, whose division leaves nothing; with any one bit turned over it is never read, and behind octet 3 the
+    refusal is 21; with the flag taken away it is never read either; the published vectors; each order of two neighbouring checks."""
+    assert crc(b'123456789') == divided(b'123456789') == 0x29b1
+    example = [1, 1, 1, 7, 2], False, False, True, 0, 1000, 34, [0, 0, 100, 200]
+    octets = write(*example)
+    assert octets.hex() == '2a001b0001070208' + '00000000000003e8' + '0000000000000000' + '00000064000000c8' + '0265'
+    for n in range(40):
+        some = rng.randbytes(n)
+        assert crc(some) == divided(some), some
+        assert crc(some + crc(some).to_bytes(2, 'big')) == 0, some
+    done = 0
+    for (i, q), (older, large), n in itertools.product(((1, 1), (2, 3), (8, 8), (1, 8), (8, 1)), ((False, False), (False, True), (True, False)),
+                                                       (0, 1, 4)):
+        identity = [i, q, *(rng.randrange(256**length) for length in (i, q, i))]
+        top = TOP if large else NARROW
+        start, end, *flat = (x for _ in range(n + 1) for x in sorted((rng.randrange(1, top // 2), rng.randrange(top // 2, top))))
+        total = 7 + 2 * i + q + (16 if large else 8) * (n + 1)
+        octets = write(identity, older, large, True, start, end, total, flat)
+        plain = write(identity, older, large, False, start, end, total - 2, flat)
+        assert octets[0] == plain[0] + 2 and octets[1:3] == (int.from_bytes(plain[1:3], 'big') + 2).to_bytes(2, 'big'), octets
+        assert octets[3:-2] == plain[3:] and divided(octets) == 0, octets
+        assert read(octets, older) == (identity, large, True, start, end, list(zip(flat[::2], flat[1::2]))), octets
+        assert refusal(read, octets, not older) == [15], octets
+        assert refusal(write, identity, older, large, True, start, end, total - 2, flat) == [6, total, total - 2], octets
+        for bit in range(8 * total):
+            refused = refusal(read, turned(octets, bit), older)
+            assert refused == [21] if bit >= 32 else refused in ([15], [16], [21]), (octets, bit)
+            done += 1
+        assert refusal(read, turned(octets, 6), older) == [16] and refusal(read, turned(plain, 6), older) == [21], octets
+
+    def said(text):
+        """What a packet is refused with as it stands and with its trailer put right, two octets behind these."""
+        head = bytes.fromhex(text)
+        return [refusal(read, head + crc(head).to_bytes(2, 'big'), False), refusal(read, head + (crc(head) ^ 1).to_bytes(2, 'big'), False)]
+
+    assert said('2a000200010702') == [[16], [16]] and refusal(read, bytes.fromhex('2a00010001070208'), False) == [16]
+    assert said('2a000300010702' '09') == [[17], [21]] and said('2a000300010702' '08') == [[16], [21]]
+    assert said('6a00030001070209') == [[15], [15]] and said('2a00040001070209') == [[16], [16]]
+    assert said('2a000b0001070208' '0000000900000004') == [[18], [21]] and said('2a000b0001070208' '0000000400000009') == [None, [21]]
     return done
 
 
 def self_test():
-    import itertools
     import random
     small = [(s, e) for s in range(5) for e in range(5)]
     done = 0
@@ -829,13 +913,16 @@ def self_test():
     done = sum(history(rng) for _ in range(400))
     print(f'self-test: 400 histories agree with the sets of octets kept, in {done} answers')
     letters, done = {'g': (3, 9), 'm': (0, 0), 'e': (5, 5), 'r': (9, 4)}, 0
-    for n, (older, large) in itertools.product(range(7), ((False, False), (False, True), (True, False))):
+    for n, (older, large), flagged in itertools.product(range(7), ((False, False), (False, True), (True, False)), (False, True)):
+        if flagged and n > 5:
+            continue
         for word in map(''.join, itertools.product(letters, repeat=n)):
             requests, refused = [letters[letter] for letter in word], refused_of_letters(word)
-            assert round_trip(older, large, requests) == (None if refused else requests, refused), word
+            assert round_trip(older, large, flagged, requests) == (None if refused else requests, refused), word
             done += 1
     print(f'self-test: {done} PDUs are written and read as words of letters say, each request in its place')
     print(f'self-test: {editions(random.Random("editions"))} PDUs of one edition are refused under the other with 15')
+    print(f'self-test: {trailers(random.Random("trailers"))} bits turned over in PDUs with a trailer, none of which is read then')
 
 
 def main():

@@ -11,7 +11,8 @@ import random
 
 import model
 import scripts
-from scripts import EDITIONS, FLAGS, FORMS, NARROW, WIDTHS, link as set_link, octets_of, set_list, spans, words, written_and_read
+from scripts import (EDITIONS, FLAGS, FORMS, NARROW, TRAILERS, WIDTHS, link as set_link, octets_of, resealed, set_list, spans, words,
+                     written_and_read)
 
 CRATE = os.path.join(os.path.dirname(os.path.dirname(os.path.abspath(__file__))), 'crates', 'pusmarke')
 SCRIPT, ANSWERS = os.path.join(CRATE, 'data', 'sample.script'), os.path.join(CRATE, 'stdout')
@@ -21,6 +22,10 @@ EXAMPLE = ('28 00 19 00 01 07 02 08 00 00 00 00 00 00 03 E8 00 00 00 00 00 00 00
            .replace(' ', '').lower())
 # The same of the older edition: the version bits are 000, all else is alike.
 OLDER = '08' + EXAMPLE[2:]
+
+# The same under the CRC flag: the length field counts the trailer.
+SEALED = ('2A 00 1B 00 01 07 02 08 00 00 00 00 00 00 03 E8 00 00 00 00 00 00 00 00 00 00 00 64 00 00 00 C8 02 65'
+          .replace(' ', '').lower())
 
 W = [(10, 20), (30, 40)]
 
@@ -164,8 +169,24 @@ LINK_EXAMPLES = [
     *set_list([(0, 2**32)], 2**32, 'known'), 'nak 1 1 1 7 2 large 40 0 1 40', 'nak 1 1 1 7 2 normal 24 0 1 24', 'link newer plain',
     'nak 1 1 1 7 2 large 40 0 1 40', '# A fresh reception keeps the link, and so does a link that is an error.',
     'link older plain', 'new wide 4', WRITE_EXAMPLE, 'new narrow 4', WRITE_EXAMPLE, 'new pairs wide 4096', words('read', OLDER), 'new wide 4097', WRITE_EXAMPLE,
-    'link newer crc', WRITE_EXAMPLE, 'link newer', WRITE_EXAMPLE, 'data 0 9', 'nak 1 1 1 7 2 normal 32 0 1 32', 'link newer plain', 'new wide 4',
-    WRITE_EXAMPLE, 'link older crc', WRITE_EXAMPLE, 'link older', words('read', EXAMPLE),
+    'link newer Crc', WRITE_EXAMPLE, 'link newer', WRITE_EXAMPLE, 'data 0 9', 'nak 1 1 1 7 2 normal 32 0 1 32', 'link newer plain', 'new wide 4',
+    WRITE_EXAMPLE, 'link older CRC', WRITE_EXAMPLE, 'link older', words('read', EXAMPLE),
+]
+
+WRITE_SEALED = 'write 1 1 1 7 2 normal 0 1000 34 0 0 100 200'
+TRAILER_EXAMPLES = [
+    '# Document 02, C-11: document 01\'s example packet under the CRC flag, written and read; read without regard to the link\'s trailer.',
+    'link newer crc', WRITE_SEALED, words('read', SEALED), words('read', EXAMPLE), WRITE_EXAMPLE, 'link newer plain', words('read', SEALED), WRITE_SEALED,
+    'link older crc', WRITE_SEALED, words('read', SEALED), words('read', '0a' + SEALED[2:]), 'write 1 1 1 7 2 large 0 1000 58 0 0 100 200', 'link newer crc',
+    'write 1 1 1 7 2 large 0 1000 58 0 0 100 200', '# P = 25 is 14, 26 and 32 have room for one request, 34 for two; without a trailer 23 is 14, 24 and 31, 32.',
+    'new wide 8', *set_list([(0, 1000)], 1000), *(words('nak 1 1 1 7 2 normal', p, 0, 2, 2 * p) for p in (24, 25, 26, 32, 33, 34)),
+    *(words('nak 1 1 1 7 2 large', p, 0, 2, 2 * p) for p in (40, 41, 42, 57, 58)), 'link newer plain',
+    *(words('nak 1 1 1 7 2 normal', p, 0, 2, 2 * p) for p in (23, 24, 31, 32)), 'link newer crc',
+    '# Length fields of 0 to 3 with as many octets behind the header, the trailer right and wrong; the flag set, and taken away.',
+    *(words('read', octets.hex()) for stated in ('2a000000010702', '2a00010001070208', '2a00020001070200ff', '2a0003000107020800ff', '2a0003000107020900ff')
+      for octets in (resealed(bytes.fromhex(stated)), bytes.fromhex(stated))),
+    words('read', '2a' + EXAMPLE[2:]), words('read', '28' + SEALED[2:]), words('read', SEALED[:-4]), words('read', SEALED[:-2]),
+    words('read', '2a0019' + SEALED[6:-4]), words('read', SEALED[:-4] + '6502'),
 ]
 
 
@@ -294,16 +315,51 @@ def link(rng):
         packets += written_and_read(ident, 'normal', 3, NARROW, requests, edition='older')
     out += [*packets, set_link('newer'), *packets[1::2]]
     out.append('# The same lines under both editions, with the faults of writing, reading and the sequence alone and together.')
-    for generator, blocks in ((scripts.link_writes, 5), (scripts.link_reads, 12), (scripts.link_sequences, 14)):
+    for generator, blocks in ((scripts.link_writes, 10), (scripts.link_reads, 24), (scripts.link_sequences, 14)):
         for block in itertools.islice(scripts.blocks(generator, 'sample'), blocks):
             # Of the long packets those that one edition refuses for their length, with identifiers of one octet.
-            out += [line for line in block if len(line) <= 2400 or line[5:7] in ('28', '29', '08') and line[11:13] == '00']
+            out += [line for line in block if len(line) <= 2400 or line[5:7] in ('28', '29', '08', '2a', '2b', '0a') and line[11:13] == '00']
     out.append('# What leaves the link as it was, and lines that are no link; histories.')
     for block in rng.sample(list(scripts.link_kept(rng)), 60):
         out += block
     for block in scripts.link_words(rng):
         out += block
     return out + short(scripts.link_history, 8, 400)
+
+
+def trailer(rng):
+    """PDUs with a trailer."""
+    out = [*TRAILER_EXAMPLES, '# That packet with every bit turned in its turn, and cut at every length.']
+    for bit in range(8 * len(SEALED) // 2):
+        damaged = bytearray.fromhex(SEALED)
+        damaged[bit // 8] ^= 0x80 >> bit % 8
+        out.append(words('read', damaged.hex()))
+    out += [words('read', SEALED[:2 * n]).strip() for n in range(len(SEALED) // 2)] + [words('read', SEALED + '00'), 'link newer plain']
+    out.append('# Every identifier length, both flags and the older edition.')
+    for i, q, (edition, flag) in itertools.product(range(1, 9), range(1, 9), FORMS):
+        ident = [i, q, *[rng.choice((0, 256**n - 1, rng.randrange(256**n), rng.randrange(256**n))) for n in (i, q, i)]]
+        top = 2**64 - 1 if flag == 'large' else NARROW
+        requests = rng.choice(([], [(0, 0)], [(0, 0), (100, 200)], [(100, 200), (0, 0)], [(5, top)], [(0, 1), (top - 1, top)]))
+        out += [set_link(edition, 'crc'), *written_and_read(ident, flag, 3, top, requests, edition=edition, trailer='crc')]
+    out.append('# Trailers wrong in many ways; each other fault with a right trailer and a wrong one; the flag set and taken away.')
+    for generator in (scripts.crc_trailers, scripts.crc_flags):
+        for block in list(scripts.blocks(generator, 'sample'))[::2]:
+            out += block
+    checks = list(scripts.blocks(scripts.crc_checks, 'sample'))
+    for block in checks[:3]:
+        out += block
+    out.append('# Both totals around 4,096 octets, buffers around them, and each P around room for one request and for two.')
+    for ident, (edition, flag) in itertools.product(([1, 7, 1, 7, 2], [2, 7, 1, 7, 2], [1, 8, 1, 7, 2]), FORMS):
+        fixed, per = 5 + 2 * ident[0] + ident[1], 16 if flag == 'large' else 8
+        n = (4096 - fixed) // per - 1
+        requests = [(2 * s, 2 * s + 1) for s in range(n)]
+        out += [set_link(edition, 'crc'), *written_and_read(ident, flag, 0, 9999, requests, edition=edition, trailer='crc')]
+    out.append(set_link('newer'))
+    for block in list(scripts.blocks(scripts.crc_writes, 'sample'))[3:6]:
+        out += [line for line in block if len(line) < 400]
+    for block in list(scripts.blocks(scripts.crc_sequences, 'sample'))[:18]:
+        out += block
+    return out
 
 
 def reception(rng):
@@ -382,11 +438,12 @@ def console(rng):
 
 REACHED = {
     'store': {**scripts.RUST_REACH, **{name: scripts.REACH[name] - {8, 10} for name in ('insert', 'remove')}},
-    'codec': {name: scripts.REACH[name] - scripts.LINKED_KINDS[name] for name in ('write', 'read')},
+    'codec': {name: scripts.REACH[name] - scripts.LINKED_KINDS[name] - scripts.CRC_KINDS[name] for name in ('write', 'read')},
     'link': scripts.LINKED_KINDS,
+    'trailer': {**scripts.CRC_KINDS, 'read': scripts.CRC_KINDS['read'] | {21}},
     'reception': {**{name: scripts.REACH[name] for name in ('data', 'metadata', 'eof')}, 'nak': scripts.UNEQUAL},
     'held': {name: scripts.REACH[name] for name in ('held', 'missing', 'map')},
-    'sequence': {'nak': scripts.REACH['nak'] - scripts.UNEQUAL - scripts.LINKED_KINDS['nak'] - {8, 10, 12}},
+    'sequence': {'nak': scripts.REACH['nak'] - scripts.UNEQUAL - scripts.LINKED_KINDS['nak'] - scripts.CRC_KINDS['nak'] - {8, 10, 12}},
     'console': {**{name: {10} for name in ('add', 'coalesce', 'within', 'octets')}, 'insert': {8, 10}, 'remove': {8, 10},
                 'nak': {8, 10, 12}, 'data': {8, 10, 12}, 'metadata': {8, 10, 12, 19}, 'eof': {8, 10, 12}},
 }
@@ -429,7 +486,7 @@ def make(rust, run):
     """Writes the sample; says of each file whether it is as it was. False if something is amiss."""
     amiss, script = [], []
     # The console as it starts comes first; its last line goes without a newline.
-    for maker in (console, store, codec, link, reception, held, sequence):
+    for maker in (console, store, codec, link, trailer, reception, held, sequence):
         name = maker.__name__
         lines = maker(random.Random(f'sample {name}'))
         if maker is store:
@@ -442,6 +499,9 @@ def make(rust, run):
         if maker is link and flat(model.answers(scripts.text(lines)))[:6] != [
                 'ok', f'pdu {EXAMPLE}', 'ok', f'pdu {OLDER}', 'nak 1 1 1 7 2 normal plain 0 1000 0 0 100 200', 'refused 15']:
             amiss.append('link: not the octets of document 01 and of the older edition')
+        if maker is trailer and flat(model.answers(scripts.text(lines)))[:3] != [
+                'ok', f'pdu {SEALED}', 'nak 1 1 1 7 2 normal crc 0 1000 0 0 100 200']:
+            amiss.append('trailer: not the octets of document 02\'s example')
         amiss += [f'{name} does not reach: {what}' for what in unreached(name, lines)]
         script += [f'# Part {name}.', *lines]
     script = scripts.text(script + ['# The last line has no newline.', 'show'])[:-1]

@@ -10,6 +10,7 @@ is, ends with `link newer plain`.
 Those of STORE hold store calls alone, which the Rust can judge; those of REST the others too.
 An exhaustive generator ends; the others go on for ever and are the same for the same seed.
 """
+import binascii
 import functools
 import itertools
 import random
@@ -21,7 +22,8 @@ NARROW = 2**32 - 1
 FLAGS = ('normal', 'large')
 WIDTHS = ('wide', 'narrow')
 EDITIONS = ('newer', 'older')
-# What can be written: under the older edition there is no large file flag.
+TRAILERS = ('plain', 'crc')
+# What can be written, each with and without a trailer: under the older edition there is no large file flag.
 FORMS = (('newer', 'normal'), ('newer', 'large'), ('older', 'normal'))
 
 # Capacities for which the Rust's fixed lists are built (store/src/main.rs).
@@ -34,8 +36,8 @@ def words(*parts):
     return ' '.join(map(str, parts))
 
 
-def link(edition):
-    return words('link', edition, 'plain')
+def link(edition, trailer='plain'):
+    return words('link', edition, trailer)
 
 
 def set_list(pairs, progress=0, mark='missing', size='open'):
@@ -853,19 +855,34 @@ def identity(rng, good=True):
     return [i, q, *numbers]
 
 
-def octets_of(ident, large, start, end, requests, edition='newer'):
+def tail(trailer):
+    """The octets of a trailer."""
+    return 2 if trailer == 'crc' else 0
+
+
+def crc_of(octets, preset=0xffff):
+    """The CRC of these octets as Python's library has it."""
+    return binascii.crc_hqx(bytes(octets), preset).to_bytes(2, 'big')
+
+
+def resealed(packet):
+    """The packet with its last two octets the CRC of those before them; a shorter one as it is."""
+    return packet[:-2] + crc_of(packet[:-2]) if len(packet) > 1 else packet
+
+
+def octets_of(ident, large, start, end, requests, edition='newer', trailer='plain'):
     """A packet's octets, good or not, so that readers can be fed without a writer. Of the older edition with the large flag it is
     what a writer would make that takes the reserved bit for the flag."""
     i, q, source, number, destination = ident
     f = 8 if large else 4
-    out = bytearray([(0x28 if edition == 'newer' else 0x08) | large, 0, 0, (i - 1) << 4 | (q - 1)])
+    out = bytearray([(0x28 if edition == 'newer' else 0x08) | tail(trailer) | large, 0, 0, (i - 1) << 4 | (q - 1)])
     out += source.to_bytes(i, 'big') + number.to_bytes(q, 'big') + destination.to_bytes(i, 'big')
     head = len(out)
     out.append(8)
     for n in [start, end] + [n for pair in requests for n in pair]:
         out += n.to_bytes(f, 'big')
-    out[1:3] = (len(out) - head & 0xffff).to_bytes(2, 'big')
-    return out
+    out[1:3] = (len(out) - head + tail(trailer) & 0xffff).to_bytes(2, 'big')
+    return resealed(out + bytes(2)) if trailer == 'crc' else out
 
 
 def some_requests(rng, large, n):
@@ -881,14 +898,14 @@ def some_requests(rng, large, n):
 
 def pdus_lengths(rng):
     """One packet written and read for each of the 64 pairs of identifier lengths, both flags of the newer edition and the older
-    edition, with and without a metadata request, first and last, and each buffer one short and one long; read under the other
-    edition too: pdu, nak, 6, 15."""
-    for i, q, (edition, flag) in itertools.product(range(1, 9), range(1, 9), FORMS):
+    edition, each with and without a trailer, with and without a metadata request, first and last, and each buffer one short and one
+    long; read under the other edition too: pdu, nak, 6, 15."""
+    for i, q, (edition, flag), trailer in itertools.product(range(1, 9), range(1, 9), FORMS, TRAILERS):
         large = flag == 'large'
-        block = ['new wide 0', link(edition)]
+        block = ['new wide 0', link(edition, trailer)]
         for requests in ([], [(0, 0)], [(0, 0), (100, 200)], [(100, 200), (0, 0)], [(5, 2**31)]):
             ident = [i, q, *[rng.randrange(256**length) for length in (i, q, i)]]
-            packet = octets_of(ident, large, 3, 1000, requests, edition)
+            packet = octets_of(ident, large, 3, 1000, requests, edition, trailer)
             flat = [n for pair in requests for n in pair]
             for length in (len(packet) - 1, len(packet) + 1, len(packet)):
                 block.append(words('write', *ident, flag, 3, 1000, length, *flat))
@@ -897,14 +914,16 @@ def pdus_lengths(rng):
 
 
 def pdus_limits(rng):
-    """Packets of every total from 4,089 to 4,104 octets, written and read, both flags and the older edition: pdu, nak, 14."""
-    for (edition, flag), q, extra in itertools.product(FORMS, range(1, 9), (0, 1)):
+    """Packets of every total from 4,089 to 4,104 octets, written and read, both flags and the older edition, with and without a
+    trailer: pdu, nak, 14."""
+    for (edition, flag), trailer, q, extra in itertools.product(FORMS, TRAILERS, range(1, 9), (0, 1)):
         large = flag == 'large'
         f = 8 if large else 4
         for i in (1, 5) if large else (1,):
             ident = [i, q, 1, 7, 2]
-            requests = [(2 * s, 2 * s + 1) for s in range((4096 - (5 + 2 * i + q + 2 * f)) // (2 * f) + extra)]
-            yield ['new wide 0', link(edition), *written_and_read(ident, flag, 0, 9999, requests, edition=edition), link('newer')]
+            requests = [(2 * s, 2 * s + 1) for s in range((4096 - (5 + 2 * i + q + 2 * f + tail(trailer))) // (2 * f) + extra)]
+            lines = written_and_read(ident, flag, 0, 9999, requests, edition=edition, trailer=trailer)
+            yield ['new wide 0', link(edition, trailer), *lines, link('newer')]
 
 
 # A letter for each kind of request: good, metadata, another empty one, reversed.
@@ -922,10 +941,10 @@ def request_of(rng, letter, large):
     return (low, high) if letter == 'g' else (high, low)
 
 
-def written_and_read(ident, flag, start, end, requests, more=0, edition='newer'):
+def written_and_read(ident, flag, start, end, requests, more=0, edition='newer', trailer='plain'):
     """Lines that write a PDU of these requests, into a buffer of its length and some more, and that read its octets, those of that
-    edition."""
-    packet = octets_of(ident, flag == 'large', start, end, requests, edition)
+    edition and trailer."""
+    packet = octets_of(ident, flag == 'large', start, end, requests, edition, trailer)
     flat = [n for pair in requests for n in pair]
     return [words('write', *ident, flag, start, end, len(packet) + more, *flat), words('read', packet.hex())]
 
@@ -941,42 +960,47 @@ def metadata_words():
 
 def pdus_metadata(rng):
     """One PDU written and read for each order of good, metadata, other empty and reversed requests, up to four of them and some
-    longer, both flags and the older edition (C-12): (0, 0) first, in the middle, last, alone, twice, with 2 and 3 before and behind
-    it: pdu, nak, 2, 3."""
+    longer, both flags and the older edition, with and without a trailer (C-12): (0, 0) first, in the middle, last, alone, twice, with 2
+    and 3 before and behind it: pdu, nak, 2, 3."""
     for word in metadata_words():
         block = ['new wide 0']
-        for edition, flag in FORMS:
+        for (edition, flag), trailer in itertools.product(FORMS, TRAILERS):
             requests = [request_of(rng, letter, flag == 'large') for letter in word]
-            block += [link(edition), *written_and_read([1, 1, 1, 7, 2], flag, 0, 1000, requests, edition=edition)]
+            lines = written_and_read([1, 1, 1, 7, 2], flag, 0, 1000, requests, edition=edition, trailer=trailer)
+            block += [link(edition, trailer), *lines]
         yield [*block, link('newer')]
 
 
 def pdus_metadata_checks(rng):
     """A second (0, 0) before 7, 14 and 6, and a single one where they are the answer; PDUs of as many requests as 4,096 octets hold,
-    and of one more, with (0, 0) last, and first and last, both flags and the older edition (C-12): pdu, nak, 2, 6, 7, 14."""
+    and of one more, with (0, 0) last, and first and last, both flags and the older edition, with and without a trailer (C-12): pdu, nak,
+    2, 6, 7, 14."""
     above, last, twice = (1, NARROW + 1), [(1, 2), (0, 0)], [(0, 0), (1, 2), (0, 0)]
     for requests, more in itertools.product(([above, *last], [*last, above], [above, *twice], [*twice, above], [(0, 0), above, (0, 0)]), (0, 1)):
         flat = [n for pair in requests for n in pair]
         normal = words('write', 1, 1, 1, 7, 2, 'normal', 3, 4, 16 + 8 * len(requests) + more, *flat)
-        yield ['new wide 0', normal, *written_and_read([1, 1, 1, 7, 2], 'large', 3, 4, requests, more), link('older'), normal, link('newer')]
-    for (edition, flag), extra in itertools.product(FORMS, (0, 1)):
-        n = {'normal': 510, 'large': 254}[flag] + extra
+        yield ['new wide 0', normal, *written_and_read([1, 1, 1, 7, 2], 'large', 3, 4, requests, more), link('older'), normal, link('newer', 'crc'),
+               normal, *written_and_read([1, 1, 1, 7, 2], 'large', 3, 4, requests, more, trailer='crc'), link('newer')]
+    for (edition, flag), trailer, extra in itertools.product(FORMS, TRAILERS, (0, 1)):
+        n = {'normal': 510, 'large': 254}[flag] - (trailer == 'crc' and flag == 'normal') + extra
         for places in ((n - 1,), (0, n - 1)):
             requests = [(0, 0) if place in places else (2 * place, 2 * place + 1) for place in range(n)]
-            yield ['new wide 0', link(edition), *written_and_read([1, 1, 1, 7, 2], flag, 0, 9999, requests, edition=edition), link('newer')]
+            lines = written_and_read([1, 1, 1, 7, 2], flag, 0, 9999, requests, edition=edition, trailer=trailer)
+            yield ['new wide 0', link(edition, trailer), *lines, link('newer')]
 
 
 def pdus_written(rng):
-    """write with every fault alone and with others, both editions: 10, 13, 15, 18, 3, 2, 7, 14, 6."""
+    """write with every fault alone and with others, both editions, with and without a trailer: 10, 13, 15, 18, 3, 2, 7, 14, 6."""
     while True:
-        block = ['new wide 0']
+        block, trailer = ['new wide 0'], 'plain'
         for _ in range(40):
             large = rng.random() < 0.5
             if rng.random() < 0.4:
-                block.append(link(rng.choice(('newer', 'newer', 'older'))))
+                trailer = rng.choice(TRAILERS)
+                block.append(link(rng.choice(('newer', 'newer', 'older')), trailer))
             ident = identity(rng, rng.random() < 0.9)
             f = 8 if large else 4
-            head = 5 + 2 * ident[0] + ident[1] + 2 * f
+            head = 5 + 2 * ident[0] + ident[1] + 2 * f + tail(trailer)
             most = max(0, (4096 - head) // (2 * f))
             n = rng.choice((0, 1, 2, 3, rng.randint(0, 40), most, most + 1))
             if rng.random() < 0.02:
@@ -1004,17 +1028,17 @@ def pdus_written(rng):
 
 def pdus_read(rng):
     """read of good packets, of one to eight octets, and of damaged copies: a bit turned, octets cut or added, the length
-    field, directive code, scope, requests and flags changed, packets above 4,096 octets; of both editions, mostly under their
-    own: nak, 16, 15, 17, 18, 3, 2, 14."""
+    field, directive code, scope, requests, flags and the trailer changed, with the trailer mostly made right again, packets above 4,096
+    octets; of both editions, mostly under their own, with and without a trailer: nak, 16, 15, 21, 17, 18, 3, 2, 14."""
     while True:
         block = ['new wide 0', 'read']
         for n in range(1, 9):
-            short = [rng.choice((0x28, 0x29, 0x68, 0x08)), 0, rng.choice((0, 1)), *[rng.choice((0, 0, 8, 0x80))] * 5]
-            block += [link(rng.choice(EDITIONS)), words('read', bytes(short[:n]).hex())]
+            short = [rng.choice((0x28, 0x29, 0x68, 0x08, 0x2a, 0x0a)), 0, rng.choice((0, 1)), *[rng.choice((0, 0, 8, 0x80))] * 5]
+            block += [link(rng.choice(EDITIONS), rng.choice(TRAILERS)), words('read', bytes(short[:n]).hex())]
         for _ in range(40):
-            edition, flag = rng.choice((*FORMS, FORMS[2]))
+            (edition, flag), trailer = rng.choice((*FORMS, FORMS[2])), rng.choice(TRAILERS)
             large = flag == 'large'
-            block.append(link(edition if rng.random() < 0.9 else rng.choice(EDITIONS)))
+            block.append(link(edition if rng.random() < 0.9 else rng.choice(EDITIONS), rng.choice(TRAILERS)))
             ident = identity(rng)
             n = rng.choice((0, 1, 2, 3, rng.randint(0, 30)))
             if rng.random() < 0.05:
@@ -1025,10 +1049,10 @@ def pdus_read(rng):
             start, end = sorted((rng.randint(0, 999), rng.randint(0, 2000)))
             if rng.random() < 0.1:
                 start = end
-            packet = octets_of(ident, large, start, end, requests, edition)
+            packet = octets_of(ident, large, start, end, requests, edition, trailer)
             head = 4 + 2 * ident[0] + ident[1]
             f = 8 if large else 4
-            fault = rng.randrange(14)
+            fault = rng.randrange(16)
             if fault == 0:
                 packet[rng.randrange(len(packet))] ^= 1 << rng.randrange(8)
             elif fault == 1:
@@ -1046,22 +1070,28 @@ def pdus_read(rng):
             elif fault == 6:
                 packet[1:3] = rng.randrange(65536).to_bytes(2, 'big')
             elif fault == 7:
-                packet = octets_of(ident, large, end + 1, end, requests, edition)
+                packet = octets_of(ident, large, end + 1, end, requests, edition, trailer)
             elif fault == 8 and requests:
                 at = rng.randrange(len(requests))
                 requests[at] = rng.choice(((7, 7), (9, 4), (0, 0), (2**32 - 1, 0)))
-                packet = octets_of(ident, large, start, end, requests, edition)
+                packet = octets_of(ident, large, start, end, requests, edition, trailer)
             elif fault == 9:
                 packet = packet[:4] + bytes(rng.randrange(256) for _ in range(rng.randint(0, 30)))
+            elif fault == 10:
+                packet[0] ^= 2
+            if trailer == 'crc' and fault in range(11) and rng.random() < 0.7:
+                packet = resealed(packet)
+            elif fault == 11:
+                packet[-rng.randint(1, 2)] ^= 1 << rng.randrange(8)
             block.append(words('read', packet.hex()))
         yield [*block, link('newer')]
 
 
 def sequences_runs(rng):
-    """Whole sequences from cursor 0 in calls of budgets 0 to 16, both flags and the older edition, every identifier length,
-    metadata known and missing, P from room for one request to 4,096: pdu, sent."""
+    """Whole sequences from cursor 0 in calls of budgets 0 to 16, both flags and the older edition, with and without a trailer, every
+    identifier length, metadata known and missing, P from room for one request to 4,096: pdu, sent."""
     while True:
-        edition, flag = rng.choice(FORMS)
+        (edition, flag), trailer = rng.choice(FORMS), rng.choice(TRAILERS)
         large = flag == 'large'
         f = 8 if large else 4
         missing = rng.random() < 0.15
@@ -1073,13 +1103,13 @@ def sequences_runs(rng):
         if missing:
             pairs = [(0, progress)] if progress else []
         ident = identity(rng)
-        fixed = 5 + 2 * ident[0] + ident[1] + 2 * f
+        fixed = 5 + 2 * ident[0] + ident[1] + 2 * f + tail(trailer)
         largest = fixed + rng.choice((2 * f, 2 * f + 1, 4 * f, 6 * f + rng.randint(0, 7)))
         largest = rng.choice((largest, largest, 512, 4096))
         k = (largest - fixed) // (2 * f)
         entries = len(pairs) + missing
         block = [words('new', rng.choice(('wide', 'narrow')) if top == NARROW else 'wide', 4096)]
-        block += [link(edition), *set_list(pairs, progress, 'missing' if missing else 'known')]
+        block += [link(edition, trailer), *set_list(pairs, progress, 'missing' if missing else 'known')]
         cursor = 0
         for _ in range(400):
             budget = rng.choice((0, 1, 2, 3, 16, 16, rng.randint(0, 16)))
@@ -1093,14 +1123,15 @@ def sequences_runs(rng):
 def sequences_any(rng):
     """Single calls of the sequence with any cursor, on and off the grid and past the end, budgets 0 to
     17, P from too small to above 4,096, short buffers, bad identities, numbers too large for the
-    flag, both editions: sent, 7, 11, 13, 14, 15, 20, 6."""
+    flag, both editions, with and without a trailer: sent, 7, 11, 13, 14, 15, 20, 6."""
     while True:
-        block = ['new wide 64']
+        block, trailer = ['new wide 64'], 'plain'
         for _ in range(15):
             large = rng.random() < 0.5
             flag, f = FLAGS[large], 8 if large else 4
             if rng.random() < 0.4:
-                block.append(link(rng.choice(('newer', 'newer', 'older'))))
+                trailer = rng.choice(TRAILERS)
+                block.append(link(rng.choice(('newer', 'newer', 'older')), trailer))
             missing = rng.random() < 0.3
             low = rng.choice((0, 0, 0, 0, NARROW - 8, 2**40))
             pairs = ascending(rng, rng.randint(0, 9), low, low + 40)
@@ -1111,7 +1142,7 @@ def sequences_any(rng):
             block += set_list(pairs, progress, 'missing' if missing else 'known')
             for _ in range(4):
                 ident = identity(rng, rng.random() < 0.92)
-                fixed = 5 + 2 * ident[0] + ident[1] + 2 * f
+                fixed = 5 + 2 * ident[0] + ident[1] + 2 * f + tail(trailer)
                 largest = fixed + 2 * f * rng.randint(1, 4) + rng.choice((0, 0, 1, 2 * f - 1))
                 if rng.random() < 0.15:
                     largest = rng.choice((0, 1, fixed, fixed + 2 * f - 1, 4096, 4097, 2**32, TOP))
@@ -1125,14 +1156,14 @@ def sequences_any(rng):
         yield [*block, link('newer')]
 
 
-# The link: which edition is written and read (C-20).
+# The link: which edition is written and read (C-20), with or without a trailer (C-11).
 
-def under_both(rng, lines):
+def under_both(rng, lines, trailer='plain'):
     """Each of these lines under both editions, now the one first and now the other."""
     out = []
     for line in lines:
         for edition in rng.sample(EDITIONS, 2):
-            out += [link(edition), line]
+            out += [link(edition, trailer), line]
     return out
 
 
@@ -1143,17 +1174,23 @@ def fields_of_both(first):
 
 
 def link_octets(rng):
-    """read of packets with each of the 256 first octets, under both editions: one that is fine for either length of the fields; then
-    the same with another directive code, another length field, a fixed bit of octet 3 turned, of 3 octets: nak, 15, 16, 17."""
-    for place, octet in ((3, 0x00), (7, 0x09), (2, 0x22), (3, 0x08), (3, 0x80), (3, None)):
+    """read of packets with each of the 256 first octets, under both editions: one that is fine for either length of the fields; the same
+    with a right trailer behind, which the length field counts; then the same with another directive code, another length field, a fixed
+    bit of octet 3 turned, of 3 octets: nak, 15, 16, 17, 21."""
+    for (place, octet), trailer in itertools.product(((3, 0x00), (7, 0x09), (2, 0x22), (3, 0x08), (3, 0x80), (3, None)), TRAILERS):
         for at in range(0, 256, 32):
             packets = [fields_of_both(first) for first in range(at, at + 32)]
+            if trailer == 'crc':
+                packets = [packet[:2] + b'\x23' + packet[3:] + bytes(2) for packet in packets]
             changed = [packet[:place] + (b'' if octet is None else bytes([octet]) + packet[place + 1:]) for packet in packets]
-            yield ['new wide 0', *under_both(rng, [words('read', packet.hex()) for packet in changed]), link('newer')]
+            if trailer == 'crc':
+                changed = [resealed(packet) for packet in changed]
+            yield ['new wide 0', *under_both(rng, [words('read', packet.hex()) for packet in changed], trailer), link('newer')]
 
 
 def link_writes(rng):
-    """The same PDU written under both editions, both flags, with each of the other faults of writing alone and with others (a list of
+    """The same PDU written under both editions, both flags, with and without a trailer, with each of the other faults of writing alone
+    and with others (a list of
     odd length, an identity that is none, a scope and requests that are reversed or empty, numbers too large, too many requests, a
     buffer one short): pdu, 10, 13, 15, 18, 3, 2, 7, 14, 6, and 15 behind 10 and 13 and before all others."""
     lists = [[100, 200], [], [0, 0, 100, 200], [5, 5], [9, 4], [1, NARROW + 1], [1, 2] * 511]
@@ -1163,25 +1200,26 @@ def link_writes(rng):
     sound = [some[0] for some in choices]
     every = [(flag, *sound[:at], one, *sound[at + 1:]) for flag in FLAGS for at, some in enumerate(choices) for one in some]
     every += shuffled(rng, FLAGS, *choices)
-    for at in range(0, len(every), 20):
+    for at, trailer in itertools.product(range(0, len(every), 20), TRAILERS):
         lines = []
         for flag, ident, scope, flat, odd, less in every[at:at + 20]:
-            length = 5 + 2 * ident[0] + ident[1] + (16 if flag == 'large' else 8) * (1 + len(flat) // 2)
+            length = 5 + 2 * ident[0] + ident[1] + (16 if flag == 'large' else 8) * (1 + len(flat) // 2) + tail(trailer)
             lines.append(words('write', *ident, flag, *scope, length - less, *flat, *[7] * odd))
-        yield ['new wide 0', *under_both(rng, lines), link('newer')]
+        yield ['new wide 0', *under_both(rng, lines, trailer), link('newer')]
 
 
 def link_reads(rng):
-    """Packets of each edition and with either lowest bit read under both editions, sound and with each of the other faults of reading:
-    nak, 15, 16, 17, 18, 3, 2, 14, and 15 before all others but 16 for fewer than four octets."""
-    kinds = ('sound', 'octet 3', 'cut', 'longer', 'length field', 'code', 'half a request', 'scope', 'reversed', 'empty', 'long', 'short')
-    for edition, flag, ident in shuffled(rng, EDITIONS, FLAGS, ([1, 1, 1, 7, 2], [2, 4, 513, 70000, 7], [8, 8, TOP, 0, 1])):
+    """Packets of each edition and with either lowest bit, with and without a trailer, read under both editions, sound and with each of the
+    other faults of reading: nak, 15, 16, 21, 17, 18, 3, 2, 14, and 15 before all others but 16 for fewer than four octets."""
+    kinds = ('sound', 'octet 3', 'cut', 'longer', 'length field', 'code', 'half a request', 'scope', 'reversed', 'empty', 'long', 'short', 'trailer')
+    idents = [1, 1, 1, 7, 2], [2, 4, 513, 70000, 7], [8, 8, TOP, 0, 1]
+    for edition, flag, ident, trailer in shuffled(rng, EDITIONS, FLAGS, idents, TRAILERS):
         lines, large, head = [], flag == 'large', 4 + 2 * ident[0] + ident[1]
         for kind in kinds:
             requests = [(100, 200)] * (255 if large else 511) if kind == 'long' else [(0, 0), (100, 200)]
             if kind in ('reversed', 'empty'):
                 requests.append((9, 4) if kind == 'reversed' else (5, 5))
-            packet = octets_of(ident, large, *((9, 4) if kind == 'scope' else (0, 1000)), requests, edition)
+            packet = octets_of(ident, large, *((9, 4) if kind == 'scope' else (0, 1000)), requests, edition, trailer)
             if kind == 'octet 3':
                 packet[3] ^= rng.choice((0x80, 0x08))
             elif kind == 'cut':
@@ -1197,14 +1235,17 @@ def link_reads(rng):
                 packet[1:3] = (len(packet) - head).to_bytes(2, 'big')
             elif kind == 'short':
                 packet = packet[:rng.randint(1, 3)]
+            if trailer == 'crc' and kind != 'short':
+                packet = resealed(packet)
+                packet[-1] ^= kind == 'trailer'
             lines.append(words('read', packet.hex()))
-        yield ['new wide 0', *under_both(rng, lines), link('newer')]
+        yield ['new wide 0', *under_both(rng, lines, trailer), link('newer')]
 
 
 def link_sequences(rng):
-    """The same call of the sequence under both editions, both flags, on records that are sound, too large for the normal flag or fail 10,
-    8 or 12, with each fault of the call alone and with others: sent, 10, 8, 12, 13, 15, 14, 7, 11, 20, 6, and 15 behind 10, 8, 12 and 13
-    and before all others."""
+    """The same call of the sequence under both editions, both flags, with and without a trailer, on records that are sound, too large for
+    the normal flag or fail 10, 8 or 12, with each fault of the call alone and with others: sent, 10, 8, 12, 13, 15, 14, 7, 11, 20, 6, and 15
+    behind 10, 8, 12 and 13 and before all others."""
     records = [[*set_list([(5, 9), (20, 30)], 40, 'known')], [*set_list([(0, 40)], 40)], [*set_list([(5, 2**40)], 2**40, 'known')],
                [*set_list([(20, 30), (5, 9)], 40, 'known')], [*set_list([(5, 9), (20, 30)], 29, 'known')],
                [*set_list([(5, 9), (20, 30)], 40, 'known'), 'lend 7'], [*set_list([(5, 9), (20, 30)], 40, 'known', 41)]]
@@ -1214,32 +1255,186 @@ def link_sequences(rng):
         (good, 100, 0, 2, 0), (good, 40, 1, 2, 0), *((ident, 100, 0, 2, 0) for ident in bad), (good, 23, 0, 2, 0), (good, 4097, 0, 2, 0),
         (good, 100, 9, 2, 0), (good, 100, 0, 17, 0), (good, 100, 0, 2, 1))]
     calls += shuffled(rng, FLAGS, (good, *bad), (23, 40, 100, 4097), (0, 1, 9), (0, 2, 17), (0, 1))
-    for at, record in itertools.product(range(0, len(calls), 20), records):
+    for at, record, trailer in itertools.product(range(0, len(calls), 20), records, TRAILERS):
         lines = []
         for flag, ident, largest, cursor, budget, less in calls[at:at + 20]:
+            largest += tail(trailer)
             length = max(0, min(budget, 16) * min(largest, 4096) - less)
             lines.append(words('nak', *ident, flag, largest, cursor, budget, length))
-        yield ['new wide 4', *record, *under_both(rng, lines), link('newer')]
+        yield ['new wide 4', *record, *under_both(rng, lines, trailer), link('newer')]
 
 
-LINKED = ['write 1 1 1 7 2 normal 0 1000 24 100 200', 'write 1 1 1 7 2 large 0 1000 40 100 200',
-          *(words('read', octets_of([1, 1, 1, 7, 2], large, 0, 1000, [(100, 200)], edition).hex())
-            for large, edition in itertools.product((False, True), EDITIONS)),
+LINKED = ['write 1 1 1 7 2 normal 0 1000 24 100 200', 'write 1 1 1 7 2 large 0 1000 40 100 200', 'write 1 1 1 7 2 normal 0 1000 26 100 200',
+          *(words('read', octets_of([1, 1, 1, 7, 2], large, 0, 1000, [(100, 200)], edition, trailer).hex())
+            for trailer, large, edition in itertools.product(TRAILERS, (False, True), EDITIONS)),
           'nak 1 1 1 7 2 normal 64 0 1 64', 'nak 1 1 1 7 2 large 64 0 1 64']
+
+
+# PDUs with a trailer (C-11).
+
+def wrong_trailers(before):
+    """Two octets behind these that are not their CRC, and what makes each wrong."""
+    right = crc_of(before)
+    wrong = {'lowest bit': bytes([right[0], right[1] ^ 1]), 'highest bit': bytes([right[0] ^ 0x80, right[1]]), 'swapped': right[::-1],
+             'preset 0': crc_of(before, 0), 'preset 1d0f': crc_of(before, 0x1d0f), 'turned over': bytes(b ^ 0xff for b in right),
+             'from octet 1': crc_of(before[1:]), 'from octet 3': crc_of(before[3:]), 'one octet less': crc_of(before[:-1]),
+             'its own octets too': crc_of(before + bytes(2)), 'high octet': bytes([right[0] ^ 0xff, right[1]]), 'low octet': bytes([right[0], right[1] ^ 0xff]),
+             'zeros': bytes(2), 'ones': b'\xff\xff'}
+    return {what: octets for what, octets in wrong.items() if octets != right}
+
+
+def crc_trailers(rng):
+    """Packets with a trailer that is wrong in each of many ways (bits, octets and their order, another preset, a CRC over fewer octets or
+    more), then the same with the right one; both flags and the older edition, of 0 to 3 requests: 21, nak."""
+    for (edition, flag), n in itertools.product(FORMS, range(4)):
+        block = ['new wide 0', link(edition, rng.choice(TRAILERS))]
+        for _ in range(4):
+            large, ident = flag == 'large', identity(rng)
+            packet = octets_of(ident, large, 3, 1000, some_requests(rng, large, n), edition, 'crc')
+            block += [words('read', (packet[:-2] + wrong).hex()) for wrong in wrong_trailers(packet[:-2]).values()] + [words('read', packet.hex())]
+        yield [*block, link('newer')]
+
+
+def crc_bits(rng):
+    """Packets with a trailer and each single bit turned over, both flags and the older edition, of 0 and 2 requests: 15, 16, 21, never
+    nak; and each with two neighbouring octets changed, and cut to every length."""
+    for (edition, flag), requests in itertools.product(FORMS, ([], [(0, 0), (100, 200)])):
+        packet = octets_of([1, 1, 1, 7, 2], flag == 'large', 0, 1000, requests, edition, 'crc')
+        number, size = int.from_bytes(packet, 'big'), len(packet)
+        lines = [words('read', (number ^ 1 << bit).to_bytes(size, 'big').hex()) for bit in range(8 * size)]
+        lines += [words('read', (number ^ rng.randrange(1, 65536) << 8 * at).to_bytes(size, 'big').hex()) for at in range(size - 1)]
+        lines += [words('read', packet[:n].hex()).strip() for n in range(size + 1)]
+        yield ['new wide 0', link(edition), *lines, link('newer')]
+
+
+def crc_faults(ident, large, edition):
+    """(name, packet with two octets for the trailer) for each fault of reading a packet with a trailer, alone and in twos where they go
+    together; the length field fits unless that is the fault."""
+    head, f = 4 + 2 * ident[0] + ident[1], 8 if large else 4
+
+    def made(code=8, scope=(0, 1000), requests=((0, 0), (100, 200)), cut=0, more=0):
+        packet = octets_of(ident, large, *scope, requests, edition, 'crc')
+        packet = packet[:len(packet) - cut] + bytes(more)
+        packet[head] = code
+        packet[1:3] = (len(packet) - head & 0xffff).to_bytes(2, 'big')
+        return packet
+
+    def stating(packet, by):
+        packet[1:3] = (len(packet) - head + by).to_bytes(2, 'big')
+        return packet
+
+    long = [(100, 200)] * (255 if large else 511)
+    yield 'sound', made()
+    yield 'no request', made(requests=())
+    for by in (-2, -1, 1, 2):
+        yield f'length {by}', stating(made(), by)
+        yield f'length {by}, code', stating(made(code=9), by)
+    # A data field of the octets stated, the first of them the code where there is one.
+    for stated, code in itertools.product(range(5), (8, 9)):
+        packet = made(requests=())[:head] + bytes([code, 0, 0, 0])[:max(0, stated - 2)] + bytes(min(2, stated))
+        packet[1:3] = stated.to_bytes(2, 'big')
+        yield f'field {stated}, code {code}', packet
+    yield 'code', made(code=9)
+    yield 'code 0', made(code=0)
+    for cut, more in ((1, 0), (2, 0), (f, 0), (2 * f - 2, 0), (0, 1), (0, 2), (0, f), (0, 2 * f - 2)):
+        yield f'fields {more - cut}', made(cut=cut, more=more)
+        yield f'fields {more - cut}, code', made(code=4, cut=cut, more=more)
+    yield 'scope', made(scope=(9, 4))
+    yield 'scope, fields', made(scope=(9, 4), more=2)
+    yield 'reversed', made(requests=((100, 200), (9, 4)))
+    yield 'empty', made(requests=((5, 5), (100, 200)))
+    yield 'twice', made(requests=((0, 0), (100, 200), (0, 0)))
+    yield 'long', made(requests=long)
+    yield 'long, code', made(code=9, requests=long)
+    yield 'long, reversed', made(requests=[*long, (9, 4)])
+    packet = made()
+    packet[3] ^= 0x80
+    yield 'fixed bit', packet
+
+
+def crc_checks(rng):
+    """read of packets with the CRC flag, each fault with a right and with a wrong trailer (length fields of 0 to 4 and off by one and two,
+    the code, the data field by some octets, the scope, requests, the size, a fixed bit), both flags and the older edition: 16 before 21,
+    21 before 17, 16, 18, 3, 2 and 14, and each of those with a right trailer; and the same octets with the flag away: nak, 16, 15, 17."""
+    for ident, (edition, flag) in itertools.product(([1, 1, 1, 7, 2], [2, 4, 513, 70000, 7], [1, 8, 1, 7, 2]), FORMS):
+        block = ['new wide 0', link(edition, rng.choice(TRAILERS))]
+        for name, packet in crc_faults(ident, flag == 'large', edition):
+            right = resealed(packet)
+            wrong = right[:-1] + bytes([right[-1] ^ rng.choice((1, 0x80, 0x55))])
+            block += [words('read', octets.hex()) for octets in (right, wrong, bytes([right[0] ^ 2]) + right[1:])]
+        yield [*block, link('newer')]
+
+
+def crc_flags(rng):
+    """The flag set on plain packets and taken away from those with a trailer; a trailer behind a plain packet, counted in the length field
+    and not; a trailer that is missing, counted and not, and one that stands twice; plain packets that end in their own CRC: nak, 16, 21."""
+    for (edition, flag), n in itertools.product(FORMS, range(4)):
+        block, large = ['new wide 0', link(edition, rng.choice(TRAILERS))], flag == 'large'
+        for _ in range(4):
+            ident = identity(rng)
+            head, requests = 4 + 2 * ident[0] + ident[1], [(s, s + 9) for s in range(n)]
+            plain, sealed = [octets_of(ident, large, 0, 9, requests, edition, trailer) for trailer in TRAILERS]
+            block += [words('read', octets.hex()) for octets in (
+                plain, sealed, bytes([plain[0] | 2]) + plain[1:], bytes([sealed[0] & ~2]) + sealed[1:], plain + crc_of(plain),
+                plain[:1] + sealed[1:3] + plain[3:] + crc_of(plain), sealed[:-2], sealed[:-1], sealed[:1] + plain[1:3] + sealed[3:-2],
+                sealed + sealed[-2:], sealed[:1] + (len(sealed) + 2 - head).to_bytes(2, 'big') + sealed[3:] + crc_of(sealed),
+                resealed(bytes([plain[0] | 2]) + plain[1:]))]
+            # A request whose last octets are the CRC of what stands before them.
+            last = octets_of(ident, large, 0, 9, [*requests, (0, 2**16)], edition)
+            block.append(words('read', resealed(last).hex()))
+        yield [*block, link('newer')]
+
+
+def crc_writes(rng):
+    """write of the same PDU with and without a trailer into buffers of both totals and around them, both flags and the older edition, of
+    none to as many requests as 4,096 octets hold in either case, and one more; the longest read too: pdu, nak, 6, 14."""
+    for q, i, (edition, flag) in itertools.product((7, 1, 2, 3, 4, 5, 6, 8), (1, 2), FORMS):
+        f, block = 8 if flag == 'large' else 4, ['new wide 0']
+        ident = [i, q, *[rng.randrange(256**length) for length in (i, q, i)]]
+        fixed = 5 + 2 * i + q + 2 * f
+        for n in (0, 1, rng.randint(2, 40), (4096 - fixed) // (2 * f), (4096 - fixed - 2) // (2 * f), (4096 - fixed) // (2 * f) + 1):
+            flat = [x for s in range(n) for x in (2 * s, 2 * s + 1)]
+            total = fixed + 2 * f * n
+            for trailer, length in itertools.product(TRAILERS, (total - 1, total, total + 1, total + 2, total + 3) if n < 2 else (total, total + 2)):
+                block += [link(edition, trailer), words('write', *ident, flag, 0, 9999, length, *flat)]
+            if total > 4090:
+                block.append(words('read', octets_of(ident, flag == 'large', 0, 9999, zip(flat[::2], flat[1::2]), edition, 'crc').hex()))
+        yield [*block, link('newer')]
+
+
+def crc_sequences(rng):
+    """The sequence at each P from two octets below room for one request to room for two and a little, and around 4,096, with and without a
+    trailer, both flags and the older edition, on records of 0 to 4 entries, metadata known and missing, buffers of the length needed and
+    one short; whole runs: sent, 14, 6."""
+    records = [set_list([], 9, 'known'), set_list([(5, 9)], 9, 'known'), set_list([(0, 1), (2, 3), (4, 5), (6, 7)], 12, 'known'), set_list([(0, 9)], 9),
+               set_list([])]
+    for (i, q), record, (edition, flag) in itertools.product(((1, 1), (2, 3), (8, 8)), records, FORMS):
+        f, block = 8 if flag == 'large' else 4, ['new wide 4', *record]
+        ident = [i, q, *[rng.randrange(256**length) for length in (i, q, i)]]
+        one = 5 + 2 * i + q + 4 * f
+        for trailer, largest in itertools.product(TRAILERS, (*range(one - 2, one + 5), *range(one + 2 * f - 1, one + 2 * f + 4), 4095, 4096, 4097)):
+            budget = rng.choice((1, 2, 4)) if largest < 4095 else 1
+            block += [link(edition, trailer), words('nak', *ident, flag, largest, 0, budget, budget * largest)]
+            if rng.random() < 0.3:
+                block += [words('nak', *ident, flag, largest, 0, budget, budget * largest - 1), words('nak', *ident, flag, largest, 1, 16, 16 * largest)]
+        yield [*block, link('newer')]
 
 
 def link_kept(rng):
     """The link stays as it was through `new` of either width and form, through `new` that is an error, through every other command,
-    accepted, refused and in error, and through a `link` that is an error: pdu, nak, sent, 15 under both editions after each."""
+    accepted, refused and in error, and through a `link` that is an error: pdu, nak, sent, 15 under both editions, with and without a
+    trailer, after each."""
     others = ['new wide 3', 'new narrow 3', 'new pairs wide 4096', 'new pairs narrow 0', 'new wide 4097', 'new', 'lend 4', 'lend 8201',
               'load 0 missing 0 open', 'poke 0 1 2', 'show', 'slots 4', 'add 1 2', 'add 2 1', 'insert 1 2', 'remove 1 2', 'coalesce', 'within 1 2',
               'octets normal 8', 'octets large 16', 'data 0 1', 'metadata', 'eof 9', 'held 0 1', 'missing', 'map 3', 'read', 'read 2800', 'read 0800',
-              *LINKED, *NO_LINKS, '', '# link newer plain', '# link older plain']
-    for edition, other in itertools.product(EDITIONS, others):
-        yield ['new wide 4', link(edition), other, *LINKED, 'new narrow 4', *LINKED, link('newer')]
+              *LINKED, *NO_LINKS, '', '# link newer plain', '# link older plain', '# link newer crc', '# link older crc']
+    for edition, trailer, other in itertools.product(EDITIONS, TRAILERS, others):
+        yield ['new wide 4', link(edition, trailer), other, *LINKED, 'new narrow 4', *LINKED, link('newer')]
 
 
-NO_LINKS = ['link', 'link newer', 'link older', 'link plain', 'link newer crc', 'link older crc', 'link crc', 'link newer plain plain',
+NO_LINKS = ['link', 'link newer', 'link older', 'link plain', 'link crc', 'link newer Crc', 'link older CRC', 'link newer crc crc',
+            'link older crc plain', 'link crc newer', 'link newer crcs', 'link older cr', 'link newer 1', 'link newer 16', 'link old crc',
+            'link newer crc16', 'Link older crc', 'link older crc\r', 'link newer,crc', 'link newer older crc', 'link newer plain plain',
             'link older plain plain', 'link newer plain crc', 'link plain newer', 'link plain older', 'link old plain', 'link new plain',
             'link Newer plain', 'link Older plain', 'link newer Plain', 'link older Plain', 'link newer plains', 'link older plai', 'link newe plain',
             'link newerr plain', 'link oldest plain', 'link 0 plain', 'link 1 0', 'link normal plain', 'link newer normal', 'link older large',
@@ -1248,21 +1443,23 @@ NO_LINKS = ['link', 'link newer', 'link older', 'link plain', 'link newer crc', 
 
 
 def link_words(rng):
-    """Lines that are no link, each under both editions: errors that change nothing; and links with more spaces: ok."""
-    for edition, line in itertools.product(EDITIONS, (*NO_LINKS, '  link   newer   plain  ', 'link  older plain ', ' link older plain')):
-        yield ['new wide 4', link(edition), line, LINKED[0], LINKED[1], *LINKED[2:4], link('newer')]
+    """Lines that are no link, each under both editions, with and without a trailer: errors that change nothing; and links with more
+    spaces: ok."""
+    for edition, trailer, line in itertools.product(EDITIONS, TRAILERS, (
+            *NO_LINKS, '  link   newer   plain  ', 'link  older plain ', ' link older plain', '  link   newer   crc  ', 'link older  crc ')):
+        yield ['new wide 4', link(edition, trailer), line, *LINKED[:5], link('newer')]
 
 
 def link_history(rng):
     """Long histories of events with sequences, PDUs that are written and read, links and fresh receptions in between: each PDU under the
-    link's edition, each packet read under either."""
+    link's edition and with its trailer, each packet read under either, with and without one."""
     while True:
-        block, edition = [words('new', rng.choice(WIDTHS), rng.choice((1, 4, 40)))], 'newer'
+        block, edition, trailer = [words('new', rng.choice(WIDTHS), rng.choice((1, 4, 40)))], 'newer', 'plain'
         for at in range(60):
             kind = rng.random()
             if kind < 0.12:
-                edition = rng.choice(EDITIONS)
-                block.append(link(edition))
+                edition, trailer = rng.choice(EDITIONS), rng.choice(TRAILERS)
+                block.append(link(edition, trailer))
             elif kind < 0.15:
                 block.append(rng.choice(NO_LINKS))
             elif kind < 0.2:
@@ -1277,7 +1474,8 @@ def link_history(rng):
                 block.append(words('nak 1 1 1 7 2', FLAGS[rng.random() < 0.3], rng.choice((40, 64, 200)), 0, rng.choice((1, 4, 16)), 3200))
             else:
                 of, large = edition if rng.random() < 0.7 else rng.choice(EDITIONS), rng.random() < 0.3
-                block += written_and_read(identity(rng), FLAGS[large], 3, 1000, some_requests(rng, large, rng.randint(0, 3)), edition=of)
+                requests, with_ = some_requests(rng, large, rng.randint(0, 3)), trailer if rng.random() < 0.8 else rng.choice(TRAILERS)
+                block += written_and_read(identity(rng), FLAGS[large], 3, 1000, requests, edition=of, trailer=with_)
         yield [*block, link('newer')]
 
 
@@ -1289,7 +1487,7 @@ def nonsense(rng):
     good = ['new wide 3', 'new pairs wide 3', 'lend 6', 'load 7 known 1 open', 'load 7 known 1 7', 'poke 0 1 2', 'show', 'slots 4',
             'add 1 2', 'insert 1 2', 'remove 1 2', 'coalesce', 'within 1 2', 'octets normal 8', 'data 0 1', 'metadata', 'eof 9',
             'held 1 2', 'missing', 'map 7', 'write 1 1 1 7 2 normal 0 1000 24 100 200', 'read 2800', 'nak 1 1 1 7 2 normal 32 0 1 32',
-            'link newer plain', 'link older plain']
+            'link newer plain', 'link older plain', 'link newer crc', 'link older crc']
     fixed = ['bogus', 'ADD 1 2', 'add', 'add 1', 'add 1 2 3', 'add -1 2', 'add +1 2', 'add 0x1 2', 'add 1. 2',
              'add 18446744073709551615 18446744073709551615', 'add 18446744073709551616 1',
              'add 99999999999999999999 1', 'add 000000000000000000001 2', 'add 00000000000000000001 2',
@@ -1318,9 +1516,10 @@ def nonsense(rng):
              'read 2', 'read 2A', 'read 28 00', 'read zz', 'read 0x28', 'read', 'nak', 'nak 1 1 1 7 2 normal 32 0 1',
              'nak 1 1 1 7 2 normal 32 0 1 66001', 'nak 1 1 1 7 2 normal 32 0 1 66000', 'nak 1 1 1 7 2 x 32 0 1 32',
              'nak 1 1 1 7 2 normal 32 0 1 32 1', *NO_LINKS, 'write 1 1 1 7 2 normal 0 9 16', '  link   older   plain  ',
-             'write 1 1 1 7 2 normal 0 9 16', *NO_LINKS, 'write 1 1 1 7 2 normal 0 9 16', 'link newer plain', 'ok', 'error 1', 'shows', 'sho', 'add 1 2#', 'add 1 2 #', 'add 1,2',
+             'write 1 1 1 7 2 normal 0 9 16', *NO_LINKS, 'write 1 1 1 7 2 normal 0 9 16', ' link  newer  crc', 'write 1 1 1 7 2 normal 0 9 18',
+             *NO_LINKS, 'write 1 1 1 7 2 normal 0 9 18', 'link newer plain', 'ok', 'error 1', 'shows', 'sho', 'add 1 2#', 'add 1 2 #', 'add 1,2',
              '\xe9', 'add \xb2 3', 'add 1\xa02', '\x00', 'show\x00', 'add 1 2\x0b', '\x0c']
-    yield ['show', 'data 5 1', 'show', 'slots 4', 'new wide 3', *fixed, 'show']
+    yield ['write 1 1 1 7 2 normal 0 9 16', 'show', 'data 5 1', 'show', 'slots 4', 'new wide 3', *fixed, 'show']
     # Line lengths of 65,535 and 65,536 octets, by spaces and by words; 8,200 and 8,201 requests.
     yield ['new wide 4096', 'add 1 2' + ' ' * 65528, 'add 3 4' + ' ' * 65529, 'show',
            'read ' + '0' * 65530, 'read ' + '0' * 65531, 'read ' + '00' * 32000,
@@ -1362,7 +1561,8 @@ QUERIES = [held_kinds, held_places, held_small, held_checks, map_places, held_hi
 PDUS = [pdus_metadata, pdus_metadata_checks, pdus_lengths, pdus_limits, pdus_written, pdus_read]
 SEQUENCES = [sequences_runs, sequences_any]
 LINKS = [link_octets, link_writes, link_reads, link_sequences, link_kept, link_words, link_history]
-REST = [*EVENTS, *QUERIES, *PDUS, *SEQUENCES, *LINKS, nonsense]
+CRCS = [crc_trailers, crc_bits, crc_checks, crc_flags, crc_writes, crc_sequences]
+REST = [*EVENTS, *QUERIES, *PDUS, *SEQUENCES, *LINKS, *CRCS, nonsense]
 
 # What a removal did (document 02, C-16), and by how many ranges the list grew.
 GREW = {'whole': -1, 'left': 0, 'right': 0, 'split': 1}
@@ -1424,19 +1624,21 @@ ORDERS = {'pdu': TAKEN, 'nak': TAKEN, 'refused 2': EMPTY, 'refused 3': REVERSED}
 
 
 def asked(*answers):
-    """The kinds of these answers by how the metadata request stands, both flags and the older edition."""
-    return {f'{answer} {how} {flag} {edition}' for answer in answers for how in ORDERS[answer] for edition, flag in FORMS}
+    """The kinds of these answers by how the metadata request stands, both flags and the older edition, with and without a trailer."""
+    return {f'{answer} {how} {flag} {edition} {trailer}' for answer in answers for how in ORDERS[answer]
+            for (edition, flag), trailer in itertools.product(FORMS, TRAILERS)}
 
 
-# What the same line is answered under both editions (document 02, C-20), by its flag; of a packet, by the lowest bit of its first octet.
+# What the same line is answered under both editions (document 02, C-20), by its flag, with and without a trailer (C-11); of a packet, by the
+# two lowest bits of its first octet.
 # The large flag is 15 under the older edition, behind the numbers of `first` and before all others; each packet but one that is shorter than
 # four octets is 15 under one edition at least.
-def under(older, newer, flag):
-    return f'{older} under older, {newer} under newer, {flag}'
+def under(older, newer, flag, trailer):
+    return f'{older} under older, {newer} under newer, {flag} {trailer}'
 
 
 def alike(flag, *said):
-    return {under(answer, answer, flag) for answer in said}
+    return {under(answer, answer, flag, trailer) for answer in said for trailer in TRAILERS}
 
 
 def refusing(*numbers):
@@ -1444,21 +1646,22 @@ def refusing(*numbers):
 
 
 def fifteen(flag, *said):
-    return {under('refused 15', answer, flag) for answer in said}
+    return {under('refused 15', answer, flag, trailer) for answer in said for trailer in TRAILERS}
 
 
 FAULTY = refusing(16, 17, 18, 3, 2, 14)
 WRITTEN = (alike('normal', 'pdu', *refusing(10, 13, 18, 3, 2, 7, 14, 6)) | alike('large', *refusing(10, 13))
            | fifteen('large', 'pdu', *refusing(18, 3, 2, 14, 6)))
-READ = ({under(answer, 'refused 15', 'normal') for answer in ('nak', *FAULTY)} | alike('normal', *refusing(15, 16)) | alike('large', *refusing(15, 16))
-        | fifteen('normal', 'nak', *FAULTY) | fifteen('large', 'nak', *FAULTY))
+READ = ({under(answer, 'refused 15', 'normal', trailer) for answer in ('nak', *FAULTY) for trailer in TRAILERS}
+        | alike('normal', *refusing(15, 16)) | alike('large', *refusing(15, 16)) | fifteen('normal', 'nak', *FAULTY) | fifteen('large', 'nak', *FAULTY)
+        | {under('refused 21', 'refused 15', 'normal', 'crc'), *(under('refused 15', 'refused 21', flag, 'crc') for flag in FLAGS)})
 SENT = (alike('normal', 'sent', *refusing(10, 8, 12, 13, 14, 7, 11, 20, 6)) | alike('large', *refusing(10, 8, 12, 13))
         | fifteen('large', 'sent', *refusing(14, 11, 20, 6)))
 
 
 def kept_link(*said):
-    """Answers under an edition that was set before the last `new`."""
-    return {f'{answer} {edition}, new since' for answer, edition in said}
+    """Answers under an edition and a trailer that were set before the last `new`."""
+    return {f'{answer} {edition} {trailer}, new since' for answer, edition in said for trailer in TRAILERS}
 
 
 # Every first octet of a packet under both editions.
@@ -1467,8 +1670,24 @@ LINKED_KINDS = {
     'write': WRITTEN | kept_link(('pdu', 'newer'), ('pdu', 'older'), ('refused 15', 'older')),
     'read': READ | FIRST | kept_link(('nak', 'newer'), ('nak', 'older'), ('refused 15', 'newer'), ('refused 15', 'older')),
     'nak': SENT | kept_link(('sent', 'newer'), ('sent', 'older'), ('refused 15', 'older')),
-    'link': {'ok newer', 'ok older', 'error newer crc', 'error older crc'} | {f'error {edition}' for edition in EDITIONS},
+    'link': {f'{answer} {edition} {trailer}' for answer in ('ok', 'error') for edition in EDITIONS for trailer in TRAILERS},
 }
+
+# Reading a packet with the CRC flag (document 02, C-11): what is said of each other fault where the trailer is right and where it is wrong; by
+# the length field where that is small and the packet has that many octets. Fewer than three come before the trailer, all others behind it.
+FAULTS_READ = {'length': 16, 'below': 16, 'code': 17, 'fields': 16, 'scope': 18, 'reversed': 3, 'empty': 2, 'long': 14}
+TRAILED = {f'{answer} {fault}, trailer {state}' for fault, number in FAULTS_READ.items() for state, answer in (
+    ('right', f'refused {number}'), ('wrong', f'refused {number if fault in ("length", "below") else 21}'))}
+TRAILED |= {'nak sound, trailer right', 'nak of 4,096 octets', 'refused 21 sound, trailer wrong',
+            *(f'refused 15 fixed bit, trailer {state}' for state in ('right', 'wrong'))}
+TRAILED |= {f'{answer}, length field {stated}' for stated, numbers in enumerate([(16,)] * 3 + [(16, 17, 21)]) for answer in refusing(*numbers)}
+# Writing with a trailer: PDUs of 4,096 octets, and those that the trailer alone makes too long or the buffer too short. The sequence: P
+# against room for one request and for two; several PDUs.
+TOTALS = {'pdu of 4,096 octets', 'refused 14 for the trailer', 'refused 6 for the trailer'}
+PLACES = {'refused 14 two below one', 'refused 14 below one', 'sent at one', 'sent below two', 'sent at two', 'sent several', 'refused 14 above 4,096',
+          'sent at 4,096'}
+CRC_KINDS = {name: {f'{what} {flag} {edition}' for what in all_ for edition, flag in FORMS}
+             for name, all_ in (('read', TRAILED), ('write', TOTALS), ('nak', PLACES))}
 
 # What a full run must meet at least once: by command, first words of answers and refusal numbers.
 REACH = {
@@ -1484,9 +1703,9 @@ REACH = {
     'held': HELD | UNEQUAL | {'yes', 'no', 2, 3, 8, 10, 12},
     'missing': MISSING | UNEQUAL | {'missing', 8, 10, 12},
     'map': MAPPED | UNEQUAL | {'map', 'error', 8, 10, 12},
-    'write': asked('pdu', 'refused 2', 'refused 3') | LINKED_KINDS['write'] | {'pdu', 2, 3, 6, 7, 10, 13, 14, 15, 18},
-    'read': asked('nak', 'refused 2', 'refused 3') | LINKED_KINDS['read'] | {'nak', 2, 3, 14, 15, 16, 17, 18},
-    'nak': UNEQUAL | LINKED_KINDS['nak'] | {'pdu', 'sent', 6, 7, 8, 10, 11, 12, 13, 14, 15, 20},
+    'write': asked('pdu', 'refused 2', 'refused 3') | LINKED_KINDS['write'] | CRC_KINDS['write'] | {'pdu', 2, 3, 6, 7, 10, 13, 14, 15, 18},
+    'read': asked('nak', 'refused 2', 'refused 3') | LINKED_KINDS['read'] | CRC_KINDS['read'] | {'nak', 2, 3, 14, 15, 16, 17, 18, 21},
+    'nak': UNEQUAL | LINKED_KINDS['nak'] | CRC_KINDS['nak'] | {'pdu', 'sent', 6, 7, 8, 10, 11, 12, 13, 14, 15, 20},
     'link': LINKED_KINDS['link'] | {'ok', 'error'},
 }
 RUST_REACH = {
@@ -1619,16 +1838,21 @@ def as_shown(answer):
     return Shown(answer)
 
 
-def requests_in(parts):
-    """The flag and the requests of a line that writes or reads a PDU and came as far as its requests, as it has them."""
+def head_of(octets):
+    """The length of a packet's header, by its octet 3."""
+    return 4 + 2 * ((octets[3] >> 4 & 7) + 1) + (octets[3] & 7) + 1
+
+
+def requests_in(parts, trailer):
+    """The flag, the trailer (of a line that writes, the link's) and the requests of a line that writes or reads a PDU and came as far as its
+    requests, as it has them."""
     if parts[0] == 'write':
         flag, numbers = parts[6], [int(word) for word in parts[10:]]
     else:
         octets = bytes.fromhex(parts[1])
-        flag, f = FLAGS[octets[0] & 1], 8 if octets[0] & 1 else 4
-        head = 4 + 2 * ((octets[3] >> 4 & 7) + 1) + (octets[3] & 7) + 1
-        numbers = [int.from_bytes(octets[at:at + f], 'big') for at in range(head + 1 + 2 * f, len(octets), f)]
-    return flag, list(zip(numbers[::2], numbers[1::2]))
+        flag, f, trailer = FLAGS[octets[0] & 1], 8 if octets[0] & 1 else 4, TRAILERS[octets[0] >> 1 & 1]
+        numbers = [int.from_bytes(octets[at:at + f], 'big') for at in range(head_of(octets) + 1 + 2 * f, len(octets) - tail(trailer), f)]
+    return flag, trailer, list(zip(numbers[::2], numbers[1::2]))
 
 
 def saying(answer):
@@ -1636,46 +1860,113 @@ def saying(answer):
     return ' '.join(answer.split(' ')[:2 if answer.startswith('refused ') else 1])
 
 
-def orders(parts, answer, edition):
+def word_of(requests):
+    """A letter for each request."""
+    return ''.join('m' if pair == (0, 0) else 'g' if pair[0] < pair[1] else 'e' if pair[0] == pair[1] else 'r' for pair in requests)
+
+
+def orders(parts, answer, link_now):
     """The kinds of an answer to such a line by how the metadata request stands, as the tables above name them."""
     said = saying(answer)
     if said in ORDERS:
-        flag, requests = requests_in(parts)
-        word = ''.join('m' if pair == (0, 0) else 'g' if pair[0] < pair[1] else 'e' if pair[0] == pair[1] else 'r' for pair in requests)
+        flag, trailer, requests = requests_in(parts, link_now.trailer)
+        word = word_of(requests)
         for how, pattern in ORDERS[said].items():
             if re.fullmatch(pattern, word):
-                yield f'{said} {how} {flag} {edition}'
+                yield f'{said} {how} {flag} {link_now.edition} {trailer}'
+
+
+def trailed(octets, said, edition):
+    """The kinds of an answer to a packet with the CRC flag, as the tables above name them: where it has one fault beside its trailer, or
+    none."""
+    head, f = head_of(octets), 8 if octets[0] & 1 else 4
+    form = f'{FLAGS[octets[0] & 1]} {edition}'
+    state, stated, faults = 'right' if octets[-2:] == crc_of(octets[:-2]) else 'wrong', int.from_bytes(octets[1:3], 'big'), []
+    if said == 'refused 15':
+        if octets[3] & 0x88 and octets[0] & ~3 == {'newer': 0x28, 'older': 0x08}[edition]:
+            yield f'{said} fixed bit, trailer {state} {form}'
+        return
+    if said == 'nak' and len(octets) == 4096:
+        yield f'nak of 4,096 octets {form}'
+    if len(octets) != head + stated:
+        faults.append('length')
+    elif stated < 4:
+        yield f'{said}, length field {stated} {form}'
+    if stated < 3:
+        faults.append('below')
+    if not faults:
+        body = octets[head:-2]
+        if body[0] != 8:
+            faults.append('code')
+        if len(body) < 1 + 2 * f or (len(body) - 1) % (2 * f):
+            faults.append('fields')
+        else:
+            numbers = [int.from_bytes(body[at:at + f], 'big') for at in range(1, len(body), f)]
+            word = word_of(zip(numbers[2::2], numbers[3::2]))
+            behind = word[re.match('g*m?g*', word).end():]
+            faults += ['scope'] if numbers[0] > numbers[1] else []
+            faults += ['reversed' if behind[0] == 'r' else 'empty'] if behind else []
+            faults += ['long'] if len(octets) > 4096 else []
+    if len(faults) < 2:
+        yield f'{said} {"".join(faults) or "sound"}, trailer {state} {form}'
+
+
+def totals(parts, answer, edition):
+    """The kinds of an answer to a line that writes with a trailer, as the tables above name them."""
+    said, form, i, q, length = saying(answer), f'{parts[6]} {edition}', int(parts[1]), int(parts[2]), int(parts[9])
+    plain = 5 + 2 * i + q + (16 if parts[6] == 'large' else 8) * (1 + (len(parts) - 10) // 2)
+    if said == 'pdu' and length == 4096:
+        yield f'pdu of 4,096 octets {form}'
+    if said == 'refused 14' and plain <= 4096 or said == 'refused 6' and length == plain:
+        yield f'{said} for the trailer {form}'
+
+
+def places(parts, answer, edition):
+    """The kinds of an answer to a call of the sequence with a trailer, as the tables above name them."""
+    said, form, i, q, largest = saying(answer[-1]), f'{parts[6]} {edition}', int(parts[1]), int(parts[2]), int(parts[7])
+    per = 16 if parts[6] == 'large' else 8
+    one = 7 + 2 * i + q + 2 * per
+    where = {one - 2: 'two below one', one - 1: 'below one', one: 'at one', one + per - 1: 'below two', one + per: 'at two', 4096: 'at 4,096',
+             4097: 'above 4,096'}
+    if largest in where:
+        yield f'{said} {where[largest]} {form}'
+    if len(answer) > 2:
+        yield f'{said} several {form}'
 
 
 class Link:
-    """The link as it stands while lines are gone through: its edition, whether there was a `new` since, and the last line of a PDU or a
-    sequence with its answer under that edition."""
+    """The link as it stands while lines are gone through: its edition and trailer, whether there was a `new` since, and the last line of a
+    PDU or a sequence with its answer under that link."""
 
     def __init__(self):
-        self.edition, self.since, self.last = 'newer', False, ('', '', '')
+        self.edition, self.trailer, self.since, self.last = 'newer', 'plain', False, ('', '', '', '')
 
     def met(self, line, parts, answer):
         """The kinds of an answer by the link, as the tables above name them."""
         if parts[0] == 'new' and answer == ['ok']:
             self.since = True
         elif parts[0] == 'link' and answer == ['ok']:
-            self.edition, self.since = parts[1], False
-            yield f'ok {self.edition}'
+            self.edition, self.trailer, self.since = parts[1], parts[2], False
+            yield f'ok {self.edition} {self.trailer}'
         elif parts[0] == 'link':
-            yield f'error {self.edition}'
-            yield ' '.join(['error', *parts[1:]])
+            yield f'error {self.edition} {self.trailer}'
         elif parts[0] in ('write', 'read', 'nak') and not answer[0].startswith('error '):
             said = saying(answer[-1])
             if self.since:
-                yield f'{said} {self.edition}, new since'
+                yield f'{said} {self.edition} {self.trailer}, new since'
             octets = parts[1] if parts[0] == 'read' and len(parts) == 2 else ''
             if len(octets) >= 8:
                 yield f'octet {octets[:2]} {self.edition}'
-            before, edition, was = self.last
-            if line == before and edition != self.edition:
-                flag = parts[6] if parts[0] != 'read' else FLAGS[int(octets[:2] or '0', 16) & 1]
-                yield under(was, said, flag) if edition == 'older' else under(said, was, flag)
-            self.last = line, self.edition, said
+                if int(octets[:2], 16) & 2:
+                    yield from trailed(bytes.fromhex(octets), said, self.edition)
+            elif self.trailer == 'crc' and parts[0] != 'read':
+                yield from totals(parts, answer[0], self.edition) if parts[0] == 'write' else places(parts, answer, self.edition)
+            before, edition, trailer, was = self.last
+            if line == before and edition != self.edition and (parts[0] == 'read' or trailer == self.trailer):
+                first = int(octets[:2] or '0', 16)
+                form = (parts[6], trailer) if parts[0] != 'read' else (FLAGS[first & 1], TRAILERS[first >> 1 & 1])
+                yield under(was, said, *form) if edition == 'older' else under(said, was, *form)
+            self.last = line, self.edition, self.trailer, said
 
 
 def met(lines, expected):
@@ -1697,7 +1988,7 @@ def met(lines, expected):
                 yield parts[0], how
             yield from ((parts[0], how) for how in record.queried(numbers, answer[0]))
         if parts[0] in ('write', 'read'):
-            yield from ((parts[0], how) for how in orders(parts, answer[0], link_now.edition))
+            yield from ((parts[0], how) for how in orders(parts, answer[0], link_now))
         if parts[0] == 'show' and not answer[0].startswith('error '):
             shown = answer[0]
         elif parts[0] not in QUERIED:
