@@ -40,7 +40,8 @@ refusalBack o =
     (cond (eqb (o .number) 19) refusal.AlreadyKnown
     (cond (eqb (o .number) 20) refusal.BudgetTooLarge
     (cond (eqb (o .number) 21) refusal.BadTrailer
-    refusal.FileSizeError)))))))))))))))))))))
+    (cond (eqb (o .number) 22) refusal.FileSizeError
+    refusal.BadTimer))))))))))))))))))))))
 
 pub refusal-back : (r : Refusal) → refusalBack (refusing r) ≡ r
 refusal-back refusal.StoreFull = refl
@@ -65,6 +66,7 @@ refusal-back refusal.AlreadyKnown = refl
 refusal-back refusal.BudgetTooLarge = refl
 refusal-back refusal.BadTrailer = refl
 refusal-back refusal.FileSizeError = refl
+refusal-back refusal.BadTimer = refl
 
 pub one-refusal : (r s : Refusal) → refusing r ≡ refusing s → r ≡ s
 one-refusal = apart refusing refusalBack refusal-back
@@ -92,6 +94,7 @@ refuses refusal.AlreadyKnown = refl
 refuses refusal.BudgetTooLarge = refl
 refuses refusal.BadTrailer = refl
 refuses refusal.FileSizeError = refl
+refuses refusal.BadTimer = refl
 
 pub no-refusal : (r : Refusal) {vs : List ℕ} → refusing r ≡ accepted vs → ⊥
 no-refusal r e = true≢false (ap (λ (o : Outcome). eqb (o .number) 0) (sym e) ∙ refuses r)

@@ -32,6 +32,7 @@ pub enum Refusal {
     BudgetTooLarge,
     BadTrailer,
     FileSizeError,
+    BadTimer,
 }
 
 // What the checks of a call say: it may go on, or the refusal.
@@ -96,5 +97,6 @@ pub fn in_numbers(r: Refusal) -> Told
         Refusal::BudgetTooLarge => bare(20),
         Refusal::BadTrailer => bare(21),
         Refusal::FileSizeError => bare(22),
+        Refusal::BadTimer => bare(25),
     }
 }

@@ -137,6 +137,12 @@ enum-told-19 c = search needs
 bare-requires-19 : tie.Need-bare-requires-19
 bare-requires-19 c κs = search needs
 
+enum-told-20 : tie.Need-enum-told-20
+enum-told-20 c = search needs
+
+bare-requires-20 : tie.Need-bare-requires-20
+bare-requires-20 c κs = search needs
+
 returns : tie.Need-returns
 returns c = rw (c .before .enum-told .given .1) (c .bare .ensures)
 
@@ -203,6 +209,9 @@ returns-21 c = rw (c .before .enum-told18 .given .1) (c .bare18 .ensures)
 returns-22 : tie.Need-returns-22
 returns-22 c = rw (c .before .enum-told19 .given .1) (c .bare19 .ensures)
 
+returns-23 : tie.Need-returns-23
+returns-23 c = rw (c .before .enum-told20 .given .1) (c .bare20 .ensures)
+
 pub in-numbers-spec : {M : Type 1} → statement M
 in-numbers-spec =
     tie.close
@@ -251,6 +260,8 @@ in-numbers-spec =
     bare-requires-18
     enum-told-19
     bare-requires-19
+    enum-told-20
+    bare-requires-20
     returns
     returns-2
     returns-3
@@ -272,4 +283,5 @@ in-numbers-spec =
     returns-19
     returns-20
     returns-21
-    returns-22)
+    returns-22
+    returns-23)
