@@ -1,0 +1,3 @@
+pub mod Lasting
+pub mod Lowering
+pub mod Hearing
