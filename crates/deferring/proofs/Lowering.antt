@@ -106,13 +106,13 @@ module _ (s : State) (p : Passed (s .list) (s .rec)) where
 
   module _ (o n : ℕ) (f : isAccepted s (Data o n) ≡ true) (sized : s .rec .sized ≡ true) where
     -- the data ends at the size or before, which is progress
-    inside : o + n ≤ s .rec .progress
+    pub inside : o + n ≤ s .rec .progress
     inside =
         let k = taken (s .rec) (s .list) o n f .checks .within in
         let u : o + n ≤ s .rec .size = ltb-false _ _ (rw sized at k) in
         omega (arith, u, sound (s .list) (s .rec) p .told sized)
 
-    nonempty : o < o + n
+    pub nonempty : o < o + n
     nonempty = omega (arith, taken (s .rec) (s .list) o n f .checks .some)
 
     same : step s (Data o n) .rec .progress ≡ s .rec .progress
