@@ -1,3 +1,4 @@
 pub mod Lasting
 pub mod Lowering
 pub mod Hearing
+pub mod Ticking

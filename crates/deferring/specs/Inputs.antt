@@ -3,10 +3,10 @@ use Prim.Native.Nat.{ℕ, zero, suc, _+_, _/_, _%_}
 use mathlib.Core.Path.{_≡_}
 use mathlib.Core.Bool.{Bool, false, cond}
 use mathlib.Core.List.{List, [], _∷_}
+use mathlib.Core.Logic.{_⊎_}
 use lib.Dec.{leb, eqb}
-use Rattle.reception.specs.History.{Event, State, fresh, isAccepted, step}
+use Rattle.reception.specs.History.{Event, State, fresh, isAccepted, step, metadataCame, toldSize, Missing}
 use Rattle.ranges.specs.declared.Width.{Width}
-use Rattle.deferring.specs.declared.Activity.the-variants as activity
 use Rattle.deferring.specs.declared.Deferred.{Deferred}
 use Rattle.deferring.specs.declared.tick.TickAnswer.{TickAnswer}
 use Rattle.deferring.specs.declared.tick.TickAnswer.the-variants as answer
@@ -56,12 +56,28 @@ ticksOf (Comes e ∷ is) = ticksOf is
 ticksOf (Tick ∷ is) = suc (ticksOf is)
 ticksOf (Reset ∷ is) = ticksOf is
 
+-- n ticks and nothing else.
+abbrev pub ticks : ℕ → Deferred → Deferred
+ticks zero t = t
+ticks (suc n) t = ticks n (ticked t .timer)
+
+-- No reset is made.
+abbrev pub NoReset : List Input → Type 0
+NoReset [] = Unit {0}
+NoReset (Comes e ∷ is) = NoReset is
+NoReset (Tick ∷ is) = NoReset is
+NoReset (Reset ∷ is) = ⊥
+
 -- No event is accepted, each judged at its turn, and no reset made.
 abbrev pub NothingTaken : Watch → List Input → Type 0
 NothingTaken k [] = Unit {0}
 NothingTaken k (Comes e ∷ is) = (isAccepted (k .state) e ≡ false) × NothingTaken (turn k (Comes e)) is
 NothingTaken k (Tick ∷ is) = NothingTaken (turn k Tick) is
 NothingTaken k (Reset ∷ is) = ⊥
+
+-- After the events the size was told, and the metadata did not come or an octet is missing.
+abbrev pub Due : State → List Event → Type 0
+Due s es = ((z : ℕ) × (toldSize s es ≡ z ∷ [])) × ((metadataCame s es ≡ false) ⊎ ((x : ℕ) × Missing s es x))
 
 -- What tick number n answers after the timer became active, if nothing is taken: it asks at d, 2d, … up to limit × d, reports the limit
 -- at d × (limit + 1), and is quiet at every other tick.

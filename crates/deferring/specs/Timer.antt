@@ -1,5 +1,6 @@
 -- The timer of the deferred NAK procedure (document 02, C-22): idle, active or deaf; what is left of its countdown, and its counter.
 use Prim.Native.Nat.{ℕ}
+use mathlib.Core.Bool.{Bool, true, false}
 use Rattle.deferring.specs.declared.Activity.{Activity}
 use Rattle.deferring.specs.declared.Activity.the-variants as activity
 use Rattle.deferring.specs.declared.Deferred.{Deferred}
@@ -19,3 +20,13 @@ goneIdle t = standing t activity.Idle 0 0
 -- Going deaf: nothing is left of the countdown; the counter stays where it is.
 abbrev pub goneDeaf : Deferred → Deferred
 goneDeaf t = standing t activity.Deaf 0 (t .counter)
+
+abbrev pub isActive : Activity → Bool
+isActive activity.Idle = false
+isActive activity.Active = true
+isActive activity.Deaf = false
+
+abbrev pub isDeaf : Activity → Bool
+isDeaf activity.Idle = false
+isDeaf activity.Active = false
+isDeaf activity.Deaf = true
