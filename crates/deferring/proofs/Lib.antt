@@ -2,3 +2,4 @@ pub mod Lasting
 pub mod Lowering
 pub mod Hearing
 pub mod Ticking
+pub mod Runs
