@@ -3,3 +3,5 @@ pub mod Lowering
 pub mod Hearing
 pub mod Ticking
 pub mod Runs
+pub mod Bounds
+pub mod Watching

@@ -4,3 +4,4 @@ pub mod Tick
 pub mod Hear
 pub mod Reset
 pub mod Inputs
+pub mod Bounds
