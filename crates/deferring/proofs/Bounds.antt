@@ -21,7 +21,7 @@ use Rattle.deferring.specs.Inputs.{Input, Comes, Tick, Reset, Watch, tur
 use Rattle.deferring.specs.Bounds.{Stands, InBounds}
 
 -- a timer that make makes has at least one tick
-some-ticks : (d limit : ℕ) → isBadTimer d limit ≡ false → 0 < d
+pub some-ticks : (d limit : ℕ) → isBadTimer d limit ≡ false → 0 < d
 some-ticks d limit e =
     let p = or-false (isOutside mostTicks d) (isOutside mostAsks limit) e in
     let q : d ≡ 0 → ⊥ = eqb-false d 0 (or-false (eqb d 0) _ (p .0) .0) in
@@ -84,7 +84,7 @@ module _ (d limit : ℕ) (some : 0 < d) where
       go activity.Active e = counted-in t h e
       go activity.Deaf e = h
 
-  turn-in : (k : Watch) (i : Input) → InBounds d limit (k .timer) → InBounds d limit (turn k i .timer)
+  pub turn-in : (k : Watch) (i : Input) → InBounds d limit (k .timer) → InBounds d limit (turn k i .timer)
   turn-in k (Comes e) h = heard-in (k .timer) h (k .state) e
   turn-in k Tick h = ticked-in (k .timer) h
   turn-in k Reset h = reset-in (k .timer) h (k .state .rec) (k .state .list)

@@ -5,3 +5,4 @@ pub mod Ticking
 pub mod Runs
 pub mod Bounds
 pub mod Watching
+pub mod Closed

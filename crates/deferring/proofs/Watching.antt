@@ -35,11 +35,11 @@ use Rattle.deferring.specs.Inputs.{Input, Comes, Tick, Reset, Watch, fre
 use Rattle.deferring.proofs.Runs.{run-alone, refused-nothing, reset-restarts, reset-refused, judged-exactly, deaf-stays}
 
 -- whether it is due, of a reception
-abbrev dueNow : State → Bool
+abbrev pub dueNow : State → Bool
 dueNow s = isDue (s .rec) (s .list)
 
 -- what holds on the way: it is deaf, or active exactly if it is due
-abbrev Follows : Watch → Type 0
+abbrev pub Follows : Watch → Type 0
 Follows k = isDeaf (k .timer .activity) ≡ false → isActive (k .timer .activity) ≡ dueNow (k .state)
 
 -- a tick leaves it active, or makes it deaf
@@ -75,7 +75,7 @@ turn-follows k Reset h = go (eqb (resetOutcome (k .state .rec) (k .state .list) 
     go true f = λ g. ap (λ (t : Deferred). isActive (t .activity)) (reset-restarts k f) ∙ either-due (dueNow (k .state)) (k .timer)
     go false f = let w = ap (λ (m : Watch). m .timer) (reset-refused k f) in λ g. ap (λ (t : Deferred). isActive (t .activity)) w ∙ h (ap (λ (t : Deferred). isDeaf (t .activity)) (sym w) ∙ g)
 
-turns-follow : (is : List Input) (k : Watch) → Follows k → Follows (turns k is)
+pub turns-follow : (is : List Input) (k : Watch) → Follows k → Follows (turns k is)
 turns-follow [] k h = h
 turns-follow (i ∷ is) k h = turns-follow is (turn k i) (turn-follows k i h)
 
