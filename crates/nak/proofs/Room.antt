@@ -1,11 +1,15 @@
 -- How many requests a PDU of at most P octets has room for.
+use mathlib.Core.Path.{_≡_, refl}
+use mathlib.Core.Bool.{true, false}
 use Prim.Native.Nat.{ℕ, _+_, _*_, _-_, _≤_, _<_}
 use native.Mathlib.Nat.{mul-comm, one-mul, le-div-iff-mul-le, div-le-self, div-mul-le-self, mul-le-mul-left}
+use native.Mathlib.Numerals.{unary-clauses}
 use native.Mathlib.Omega.{arith}
 use lib.ListN.{length}
 use Rattle.octets.specs.declared.LargeFileFlag.{LargeFileFlag}
 use Rattle.octets.specs.declared.LargeFileFlag.the-variants.{Normal, Large}
 use Rattle.octets.specs.Flag.{fieldLength}
+use Rattle.nak.specs.declared.Edition.{Edition}
 use Rattle.nak.specs.declared.Form.{Form}
 use Rattle.nak.specs.declared.Identity.{Identity}
 use Rattle.nak.specs.Pdu.{Nak, pdu, headerLength, trailerLength, pduLength, perPdu}
@@ -42,6 +46,11 @@ module _ (g : Form) (d : Identity) (p : ℕ) where
 
   pub per-high : perPdu g d p ≤ p
   per-high = let q = div-le-self (p - trailerLength g - h - 1 - 2 * f) (2 * f) in omega arith
+
+-- with a trailer k is that of a PDU two octets shorter
+pub k-loses-two : (e : Edition) (f : LargeFileFlag) (d : Identity) (p : ℕ)
+    → perPdu (record { edition = e; flag = f; crc = true }) d p ≡ perPdu (record { edition = e; flag = f; crc = false }) d (p - 2)
+k-loses-two e g d p = simp unary-clauses refl
 
 -- a PDU with at most k requests has at most P octets
 pub per-short : (n : Nak) (p : ℕ) → pduLength (n .form) (n .identity) 2 ≤ p → length (n .requests) ≤ perPdu (n .form) (n .identity) p → length (pdu n) ≤ p
