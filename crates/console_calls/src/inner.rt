@@ -6,3 +6,4 @@ pub mod refusals; // refusals.rt: a refusal as a line
 pub mod reports; // reports.rt: held, missing
 pub mod state; // state.rt: what the console holds from line to line
 pub mod store; // store.rt: the store's six calls
+pub mod timing; // timing.rt: defer, tick, reset, timer

@@ -8,6 +8,7 @@ use console_calls::inner::reports;
 use console_calls::inner::state;
 use console_calls::inner::state::State;
 use console_calls::inner::store;
+use console_calls::inner::timing;
 use console_text::inner::part;
 use console_text::inner::words;
 use console_text::inner::words::Arguments;
@@ -35,6 +36,10 @@ pub enum Command {
     Write,
     Read,
     Nak,
+    Defer,
+    Tick,
+    Reset,
+    Timer,
     Unknown,
 }
 
@@ -62,6 +67,23 @@ fn state_named(word: &[u8]) -> Command {
         return Command::Slots;
     }
     Command::Unknown
+}
+
+// The commands of a timer, and else those.
+fn timer_named(word: &[u8]) -> Command {
+    if words::same(word, b"defer") {
+        return Command::Defer;
+    }
+    if words::same(word, b"tick") {
+        return Command::Tick;
+    }
+    if words::same(word, b"reset") {
+        return Command::Reset;
+    }
+    if words::same(word, b"timer") {
+        return Command::Timer;
+    }
+    state_named(word)
 }
 
 // The calls, and else those.
@@ -111,7 +133,7 @@ fn call_named(word: &[u8]) -> Command {
     if words::same(word, b"nak") {
         return Command::Nak;
     }
-    state_named(word)
+    timer_named(word)
 }
 
 // The words of `new`: a width and ranges, with or without `pairs` before them; in both, the width is the first value.
@@ -174,6 +196,10 @@ fn arguments(
         Command::Write => words::take_words(line, from, b"nnnnnfnnb*", values),
         Command::Read => words::packet(line, from, buf),
         Command::Nak => words::take_words(line, from, b"nnnnnfnnnb", values),
+        Command::Defer => words::take_words(line, from, b"nn", values),
+        Command::Tick => words::take_words(line, from, b"i", values),
+        Command::Reset => words::take_words(line, from, b"", values),
+        Command::Timer => words::take_words(line, from, b"", values),
         Command::Unknown => Arguments::Wrong,
     }
 }
@@ -211,6 +237,10 @@ fn answer(
         Command::Write => pdus::write(s, values, values, n, buf, out),
         Command::Read => pdus::read(s, buf, n, out),
         Command::Nak => pdus::sequence(s, memory, values, buf, out),
+        Command::Defer => timing::defer(s, values[0], values[1], out),
+        Command::Tick => timing::ticks(s, values[0], out),
+        Command::Reset => timing::restart(s, memory, out),
+        Command::Timer => timing::show(s, out),
         Command::Unknown => s,
     }
 }

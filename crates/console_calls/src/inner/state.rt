@@ -3,6 +3,8 @@ ghost use Prim.Native.Nat.{_≤_};
 ghost use lib.ListN.{length};
 use console_text::inner::part;
 use console_text::inner::print;
+use deferring::Activity;
+use deferring::Deferred;
 use lists::inner::moves::tidy;
 use nak::Edition;
 use ranges::Width;
@@ -15,12 +17,26 @@ pub struct State {
     // Whether the link speaks the older edition, and whether its PDUs are written with a CRC trailer.
     pub older: bool,
     pub crc: bool,
+    // Whether there is a timer of the deferred NAK procedure, and the timer.
+    pub timed: bool,
+    pub timer: Deferred,
     // Lines ended so far; octets of the present line, and whether more came than a line may have.
     pub lines: u64,
     pub filled: usize,
     pub overlong: bool,
     // Octets that wait in the output buffer.
     pub at: usize,
+}
+
+// What stands where there is no timer.
+fn no_timer() -> Deferred {
+    Deferred {
+        period: 0,
+        limit: 0,
+        activity: Activity::Idle,
+        left: 0,
+        counter: 0,
+    }
 }
 
 // As after `new wide 4096` and `link newer plain`.
@@ -30,6 +46,8 @@ pub fn start() -> State {
         length: 8192,
         older: false,
         crc: false,
+        timed: false,
+        timer: no_timer(),
         lines: 0,
         filled: 0,
         overlong: false,
@@ -40,6 +58,12 @@ pub fn start() -> State {
 pub fn with_record(s: State, rec: Reception) -> State {
     let mut next = s;
     next.rec = rec;
+    next
+}
+
+pub fn with_timer(s: State, timer: Deferred) -> State {
+    let mut next = s;
+    next.timer = timer;
     next
 }
 
@@ -77,11 +101,12 @@ fn width_of(mark: u64) -> Width {
     }
 }
 
-// new: a fresh reception of that width with room for that many ranges.
+// new: a fresh reception of that width with room for that many ranges, and no timer.
 pub fn new(s: State, memory: &mut [u64], narrow: u64, ranges: u64, out: &mut [u8; 65536]) -> State {
     tidy(memory, 0, memory.len() / 2);
     let mut next = with_record(s, Reception::fresh(width_of(narrow)));
     next.length = 2 * part::at_most(ranges as usize, 4096);
+    next.timed = false;
     says(next, out, b"ok")
 }
 

@@ -11,6 +11,9 @@ const BUFFER: u64 = 66000;
 
 pub const MOST_CELLS: u64 = 200;
 
+// The most ticks of one line.
+const MOST_TICKS: u64 = 1000000;
+
 // The octets of a line from `from` up to `to`; none where no word is left.
 pub struct Word {
     pub from: usize,
@@ -146,14 +149,15 @@ fn mark(word: &[u8], first: &[u8], second: &[u8]) -> Value {
     Value::Wrong
 }
 
-// What a word says where this kind is due: `r` ranges, `l` a length of the memory, `b` one of the buffer, `c` cells of a picture, `w` a width, `k` whether
-// metadata is known, `f` the large file flag, `e` the edition, `t` the trailer, `o` the word `open`, `p` the word `pairs`, `.` nothing; any other kind is a number.
+// What a word says where this kind is due: `r` ranges, `l` a length of the memory, `b` one of the buffer, `c` cells of a picture, `i` ticks, `w` a width, `k`
+// whether metadata is known, `f` the large file flag, `e` the edition, `t` the trailer, `o` the word `open`, `p` the word `pairs`, `.` nothing; any other kind is a number.
 fn read_word(word: &[u8], kind: u8) -> Value {
     match kind {
         b'r' => number_to(word, MOST_RANGES),
         b'l' => number_to(word, MEMORY),
         b'b' => number_to(word, BUFFER),
         b'c' => number_from_one(word, MOST_CELLS),
+        b'i' => number_from_one(word, MOST_TICKS),
         b'w' => mark(word, b"wide", b"narrow"),
         b'k' => mark(word, b"known", b"missing"),
         b'f' => mark(word, b"normal", b"large"),
