@@ -6,3 +6,5 @@ pub mod Runs
 pub mod Bounds
 pub mod Watching
 pub mod Closed
+pub mod Cases
+pub mod News

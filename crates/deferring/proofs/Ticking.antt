@@ -10,13 +10,14 @@ use native.Mathlib.Omega.{arith}
 use lib.Arith.{digits-mod, digits-div}
 use lib.Dec.{leb, eqb}
 use borrow.Author.Tests.{le-leb, lt-leb, eq-eqb, ne-eqb, eqb-true}
+use Rattle.deferring.specs.declared.Activity.{Activity}
 use Rattle.deferring.specs.declared.Activity.the-variants as activity
 use Rattle.deferring.specs.declared.Deferred.{Deferred}
 use Rattle.deferring.specs.declared.tick.TickAnswer.{TickAnswer}
 use Rattle.deferring.specs.declared.tick.TickAnswer.the-variants as answer
 use Rattle.deferring.specs.declared.tick.TickDone.{TickDone}
 use Rattle.deferring.specs.Timer.{standing, goneActive}
-use Rattle.deferring.specs.Tick.{answering, ticked}
+use Rattle.deferring.specs.Tick.{answering, tickedAs, ticked}
 use Rattle.deferring.specs.Inputs.{Input, Comes, Tick, Reset, Watch, turn, turns, answerNow, ticks, ticksOf, NothingTaken, answerAt}
 
 -- quotient and remainder of the next number
@@ -116,6 +117,18 @@ only-ticks [] k n = refl
 only-ticks (Comes e ∷ is) k n = only-ticks is (turn k (Comes e)) (n .1) ∙ rw (n .0)
 only-ticks (Tick ∷ is) k n = only-ticks is (turn k Tick) n
 only-ticks (Reset ∷ is) k n = absurd n
+
+-- idle, it waits: one that is made after the EOF stays idle until an event is accepted or a reset made
+pub idle-waits : (k : Watch) → k .timer .activity ≡ activity.Idle → (is : List Input) → NothingTaken k is
+    → (turns k is .timer ≡ k .timer) × (answerNow (turns k is) ≡ answer.Quiet)
+idle-waits k e is n = let w = only-ticks is k n ∙ still (ticksOf is) in (w, ap (λ (u : Deferred). ticked u .answer) w ∙ ap (λ (x : TickDone). x .answer) quiet)
+  where
+    quiet : ticked (k .timer) ≡ answering answer.Quiet (k .timer)
+    quiet = ap (λ (a : Activity). tickedAs a (k .timer)) e
+
+    still : (m : ℕ) → ticks m (k .timer) ≡ k .timer
+    still zero = refl
+    still (suc m) = ap (λ (x : TickDone). ticks m (x .timer)) quiet ∙ still m
 
 -- after the timer became active, and if no event is accepted and no reset made, tick number n + 1 answers: ask at d, 2d, …, limit × d;
 -- the limit at d × (limit + 1); else nothing, ever
