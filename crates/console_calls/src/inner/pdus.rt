@@ -54,10 +54,7 @@ fn write_requests(
     if a.refusal != 0 {
         return refusals::show_refusal(s, a, out);
     }
-    let at = print::text(out, s.at, b"pdu ");
-    let written = part::first_octets(buf, size);
-    let end = print::hex(out, at, &buf[..written]);
-    state::answered(s, out, end)
+    state::show_octets(s, b"pdu ", buf, size, out)
 }
 
 pub fn write(

@@ -51,8 +51,8 @@ fn plain_data(s: State, list: &mut [u64], offset: u64, length: u64) -> Received 
 
 fn timed_data(s: State, list: &mut [u64], offset: u64, length: u64) -> Received {
     let rec = s.rec;
-    let timer = s.timer;
-    let done = deferred::data::deferred_data_core(timer, rec, list, offset, length);
+    let timer = state::timer_of(s);
+    let done = deferred_events::data::deferred_data_core(timer, rec, list, offset, length);
     let heard = done.heard;
     let answer = heard.answer;
     let next = heard.timer;
@@ -64,7 +64,7 @@ fn timed_data(s: State, list: &mut [u64], offset: u64, length: u64) -> Received 
 }
 
 fn receive_data(s: State, list: &mut [u64], offset: u64, length: u64) -> Received {
-    if s.timed {
+    if state::is_timed(s) {
         return timed_data(s, list, offset, length);
     }
     plain_data(s, list, offset, length)
@@ -100,8 +100,8 @@ fn plain_metadata(s: State, list: &[u64]) -> Received {
 
 fn timed_metadata(s: State, list: &[u64]) -> Received {
     let rec = s.rec;
-    let timer = s.timer;
-    let done = deferred::metadata::deferred_metadata_core(timer, rec, list);
+    let timer = state::timer_of(s);
+    let done = deferred_events::metadata::deferred_metadata_core(timer, rec, list);
     let heard = done.heard;
     let answer = heard.answer;
     let next = heard.timer;
@@ -113,7 +113,7 @@ fn timed_metadata(s: State, list: &[u64]) -> Received {
 }
 
 fn receive_metadata(s: State, list: &[u64]) -> Received {
-    if s.timed {
+    if state::is_timed(s) {
         return timed_metadata(s, list);
     }
     plain_metadata(s, list)
@@ -143,8 +143,8 @@ fn plain_eof(s: State, list: &mut [u64], size: u64) -> Received {
 
 fn timed_eof(s: State, list: &mut [u64], size: u64) -> Received {
     let rec = s.rec;
-    let timer = s.timer;
-    let done = deferred::eof::deferred_eof_core(timer, rec, list, size);
+    let timer = state::timer_of(s);
+    let done = deferred_events::eof::deferred_eof_core(timer, rec, list, size);
     let heard = done.heard;
     let answer = heard.answer;
     let next = heard.timer;
@@ -156,7 +156,7 @@ fn timed_eof(s: State, list: &mut [u64], size: u64) -> Received {
 }
 
 fn receive_eof(s: State, list: &mut [u64], size: u64) -> Received {
-    if s.timed {
+    if state::is_timed(s) {
         return timed_eof(s, list, size);
     }
     plain_eof(s, list, size)

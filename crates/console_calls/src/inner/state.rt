@@ -1,9 +1,10 @@
 // What the console holds from line to line, and the commands that set and show it.
 ghost use Prim.Native.Nat.{_≤_};
 ghost use lib.ListN.{length};
+use c_deferred::inner::activity_in;
+use c_deferred::inner::activity_out;
 use console_text::inner::part;
 use console_text::inner::print;
-use deferring::Activity;
 use deferring::Deferred;
 use lists::inner::moves::tidy;
 use nak::Edition;
@@ -17,26 +18,14 @@ pub struct State {
     // Whether the link speaks the older edition, and whether its PDUs are written with a CRC trailer.
     pub older: bool,
     pub crc: bool,
-    // Whether there is a timer of the deferred NAK procedure, and the timer.
-    pub timed: bool,
-    pub timer: Deferred,
+    // The numbers of the deferred NAK procedure's timer; the first, its period, is 0 where there is none.
+    pub timer: [u64; 5],
     // Lines ended so far; octets of the present line, and whether more came than a line may have.
     pub lines: u64,
     pub filled: usize,
     pub overlong: bool,
     // Octets that wait in the output buffer.
     pub at: usize,
-}
-
-// What stands where there is no timer.
-fn no_timer() -> Deferred {
-    Deferred {
-        period: 0,
-        limit: 0,
-        activity: Activity::Idle,
-        left: 0,
-        counter: 0,
-    }
 }
 
 // As after `new wide 4096` and `link newer plain`.
@@ -46,8 +35,7 @@ pub fn start() -> State {
         length: 8192,
         older: false,
         crc: false,
-        timed: false,
-        timer: no_timer(),
+        timer: [0; 5],
         lines: 0,
         filled: 0,
         overlong: false,
@@ -61,9 +49,29 @@ pub fn with_record(s: State, rec: Reception) -> State {
     next
 }
 
+pub fn is_timed(s: State) -> bool {
+    s.timer[0] != 0
+}
+
+pub fn timer_of(s: State) -> Deferred {
+    let activity = activity_in(s.timer[2]);
+    Deferred {
+        period: s.timer[0],
+        limit: s.timer[1],
+        activity,
+        left: s.timer[3],
+        counter: s.timer[4],
+    }
+}
+
 pub fn with_timer(s: State, timer: Deferred) -> State {
+    let activity = timer.activity;
     let mut next = s;
-    next.timer = timer;
+    next.timer[0] = timer.period;
+    next.timer[1] = timer.limit;
+    next.timer[2] = activity_out(activity);
+    next.timer[3] = timer.left;
+    next.timer[4] = timer.counter;
     next
 }
 
@@ -86,6 +94,14 @@ pub fn says(s: State, out: &mut [u8; 65536], word: &[u8]) -> State {
     answered(s, out, at)
 }
 
+// A word, and behind it the first n octets of a buffer.
+pub fn show_octets(s: State, word: &[u8], buf: &[u8], n: usize, out: &mut [u8; 65536]) -> State {
+    let at = print::text(out, s.at, word);
+    let written = part::first_octets(buf, n);
+    let end = print::hex(out, at, &buf[..written]);
+    answered(s, out, end)
+}
+
 // A line that can't be taken.
 pub fn error(s: State, out: &mut [u8; 65536]) -> State {
     let at = print::text(out, s.at, b"error");
@@ -106,7 +122,7 @@ pub fn new(s: State, memory: &mut [u64], narrow: u64, ranges: u64, out: &mut [u8
     tidy(memory, 0, memory.len() / 2);
     let mut next = with_record(s, Reception::fresh(width_of(narrow)));
     next.length = 2 * part::at_most(ranges as usize, 4096);
-    next.timed = false;
+    next.timer[0] = 0;
     says(next, out, b"ok")
 }
 

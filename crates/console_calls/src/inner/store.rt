@@ -143,8 +143,5 @@ pub fn octets(
     if a.refusal != 0 {
         return refusals::show_refusal(s, a, out);
     }
-    let at = print::text(out, s.at, b"octets ");
-    let written = part::first_octets(buf, n);
-    let end = print::hex(out, at, &buf[..written]);
-    state::answered(s, out, end)
+    state::show_octets(s, b"octets ", buf, n, out)
 }

@@ -18,11 +18,7 @@ use deferring::tick::TickAnswer;
 pub fn defer(s: State, d: u64, limit: u64, out: &mut [u8; 65536]) -> State {
     let made = make(d, limit);
     match made {
-        MakeAnswer::Made(timer) => {
-            let mut next = state::with_timer(s, timer);
-            next.timed = true;
-            state::says(next, out, b"ok")
-        }
+        MakeAnswer::Made(timer) => state::says(state::with_timer(s, timer), out, b"ok"),
         MakeAnswer::Refused(r) => refusals::show_refusal(s, of_refusal(r), out),
     }
 }
@@ -76,10 +72,10 @@ fn show_answer(out: &mut [u8; 65536], at: usize, answer: TickAnswer) -> usize {
 }
 
 pub fn ticks(s: State, n: u64, out: &mut [u8; 65536]) -> State {
-    if !s.timed {
+    if !state::is_timed(s) {
         return state::error(s, out);
     }
-    let timer = s.timer;
+    let timer = state::timer_of(s);
     let done = run(timer, n);
     let answer = done.answer;
     let after = done.timer;
@@ -89,11 +85,11 @@ pub fn ticks(s: State, n: u64, out: &mut [u8; 65536]) -> State {
 }
 
 pub fn restart(s: State, memory: &[u64], out: &mut [u8; 65536]) -> State {
-    if !s.timed {
+    if !state::is_timed(s) {
         return state::error(s, out);
     }
     let lent = part::first_numbers(memory, s.length);
-    let timer = s.timer;
+    let timer = state::timer_of(s);
     let rec = s.rec;
     let done = reset(timer, rec, &memory[..lent]);
     let answer = done.answer;
@@ -113,10 +109,10 @@ fn show_activity(out: &mut [u8; 65536], at: usize, activity: Activity) -> usize 
 }
 
 pub fn show(s: State, out: &mut [u8; 65536]) -> State {
-    if !s.timed {
+    if !state::is_timed(s) {
         return state::error(s, out);
     }
-    let timer = s.timer;
+    let timer = state::timer_of(s);
     let activity = timer.activity;
     let mut at = show_activity(out, s.at, activity);
     at = print::number(out, at, timer.left);
