@@ -26,11 +26,11 @@ use deferred::eof::deferred_eof_core;
 use deferred::metadata::deferred_metadata_core;
 
 pub fn data_whole(
-    timer: PusmarkeDeferred,
     rec: PusmarkeReception,
     list: &mut [u64],
     offset: u64,
     length: u64,
+    timer: PusmarkeDeferred,
 ) -> HeardOut
     ensures { λ r. ⌜ (r .heard ≡ heardOut (dataOutcome (recordIn rec) (now (list .entry)) offset length) (timerOut (heard (timerIn timer) (stateOf (recordIn rec) (now (list .entry))) (Data offset length))))
         × ((r .rec ≡ advancedTo (dataRecord (recordIn rec) (now (list .entry)) offset length) rec)
@@ -57,7 +57,7 @@ pub fn data_whole(
 }
 
 // The list is only read.
-pub fn metadata_whole(timer: PusmarkeDeferred, rec: PusmarkeReception, list: &[u64]) -> HeardOut
+pub fn metadata_whole(rec: PusmarkeReception, list: &[u64], timer: PusmarkeDeferred) -> HeardOut
     ensures { λ r. ⌜ (r .heard ≡ heardOut (metadataOutcome (recordIn rec) (now (list .entry))) (timerOut (heard (timerIn timer) (stateOf (recordIn rec) (now (list .entry))) Metadata)))
         × (r .rec ≡ markedBy (metadataRecord (recordIn rec) (now (list .entry))) rec) ⌝ }
 {
@@ -81,10 +81,10 @@ pub fn metadata_whole(timer: PusmarkeDeferred, rec: PusmarkeReception, list: &[u
 }
 
 pub fn eof_whole(
-    timer: PusmarkeDeferred,
     rec: PusmarkeReception,
     list: &mut [u64],
     size: u64,
+    timer: PusmarkeDeferred,
 ) -> HeardOut
     ensures { λ r. ⌜ (r .heard ≡ heardOut (eofOutcome (recordIn rec) (now (list .entry)) size) (timerOut (heard (timerIn timer) (stateOf (recordIn rec) (now (list .entry))) (Eof size))))
         × ((r .rec ≡ endedBy (eofOutcome (recordIn rec) (now (list .entry)) size) (eofRecord (recordIn rec) (now (list .entry)) size) rec)
