@@ -40,15 +40,15 @@ pub fn timer_in(timer: PusmarkeDeferred) -> Deferred
     }
 }
 
-pub fn timer_out(timer: Deferred) -> PusmarkeDeferred
-    ensures { λ r. ⌜ r ≡ timerOut timer ⌝ }
+pub fn timer_out(own: Deferred) -> PusmarkeDeferred
+    ensures { λ r. ⌜ r ≡ timerOut own ⌝ }
 {
-    let activity = timer.activity;
+    let activity = own.activity;
     PusmarkeDeferred {
-        period: timer.period,
-        limit: timer.limit,
+        period: own.period,
+        limit: own.limit,
         activity: activity_out(activity),
-        left: timer.left,
-        counter: timer.counter,
+        left: own.left,
+        counter: own.counter,
     }
 }

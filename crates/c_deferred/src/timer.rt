@@ -89,10 +89,10 @@ pub fn reset_out(timer: PusmarkeDeferred, rec: PusmarkeReception, list: &[u64]) 
     let whole = record_in(rec);
     let done = reset(own, whole, list);
     let case = done.answer;
-    let after = done.timer;
+    let anew = done.timer;
     let answer = of_reset(case);
     PusmarkeHeard {
         answer,
-        timer: timer_out(after),
+        timer: timer_out(anew),
     }
 }

@@ -67,14 +67,14 @@ pub fn metadata_whole(rec: PusmarkeReception, list: &[u64], timer: PusmarkeDefer
     let told = done.heard;
     let case = told.answer;
     let answer = of_metadata(case);
-    let next = told.timer;
+    let later = told.timer;
     let after = done.rec;
     let mut left = rec;
     left.missing = mark_after(rec.missing, after.missing);
     HeardOut {
         heard: PusmarkeHeard {
             answer,
-            timer: timer_out(next),
+            timer: timer_out(later),
         },
         rec: left,
     }
@@ -96,7 +96,7 @@ pub fn eof_whole(
     let told = done.heard;
     let case = told.answer;
     let answer = of_eof(case);
-    let next = told.timer;
+    let last = told.timer;
     let ended = done.rec;
     let mut left = rec;
     left.progress = ended.progress;
@@ -106,7 +106,7 @@ pub fn eof_whole(
     HeardOut {
         heard: PusmarkeHeard {
             answer,
-            timer: timer_out(next),
+            timer: timer_out(last),
         },
         rec: left,
     }
