@@ -31,7 +31,8 @@ fn ranges() {
         let timer = Deferred::new(ticks, limit).unwrap();
         assert_eq!((timer.ticks(), timer.limit(), timer.activity(), timer.left(), timer.counter()), (ticks, limit, Idle, 0, 0));
     }
-    for (ticks, limit) in [(0, 1), (65_536, 1), (1, 0), (1, 256), (0, 0), (65_536, 256), (u64::MAX, 1), (1, u64::MAX), (1 << 32, 1)] {
+    for (ticks, limit) in [(0, 1), (65_536, 1), (1, 0), (1, 256), (0, 0), (65_536, 256), (u64::MAX, 1), (1, u64::MAX), (1 << 32, 1)]
+    {
         assert_eq!(Deferred::new(ticks, limit), Err(Refusal::BadTimer), "{ticks} {limit}");
     }
     assert_eq!((Refusal::BadTimer.number(), Refusal::of(25, 0, 0)), (25, Some(Refusal::BadTimer)));
