@@ -84,7 +84,7 @@ stayed = (
 abbrev Core : {M : Type 1} (𝓤 : URA M) (H : Heap 𝓤) (A : Atoms 𝓤) (mem : Memory → SProp 𝓤) (run : Routine → Fun 𝓤) → Contract 𝓤
 Core 𝓤 H A mem run = tripleOf 𝓤 H A core.signature (core.spec 𝓤 H A mem run)
 
--- the machine values of a record, and of a timer
+-- the machine values of a record, and of a timer; below, `wast` is what is known of the timer that was passed
 abbrev val : PusmarkeReception → Val
 val = LL.val T.the-type T′.the-laws
 
