@@ -1115,6 +1115,198 @@ static void sequence(void) {
     ACCEPTED(pusmarke_nak_sequence(pusmarke_fresh(0), NULL, 0, identity, newer_large, 47, 0, 1, buf, 64), 1, 40, 1);
 }
 
+/* The answer of a call of the deferred procedure, and its timer, which is handed on. */
+static struct pusmarke_deferred hears(int line, struct pusmarke_heard h, uint64_t refusal, uint64_t first, uint64_t period, uint64_t limit,
+    uint64_t activity, uint64_t left, uint64_t counter) {
+    const struct pusmarke_deferred t = h.timer;
+
+    is(line, h.answer, refusal, first, 0, 0);
+    holds(line, t.period == period && t.limit == limit && t.activity == activity && t.left == left && t.counter == counter);
+    return t;
+}
+
+#define HEARS(call, refusal, first, period, limit, activity, left, counter) \
+    hears(__LINE__, (call), (refusal), (first), (period), (limit), (activity), (left), (counter))
+#define IDLE PUSMARKE_TIMER_IDLE
+#define ACTIVE PUSMARKE_TIMER_ACTIVE
+#define DEAF PUSMARKE_TIMER_DEAF
+
+/* "starts a countdown of d ticks, 1 to 65,535", "the limit (1 to 255)", "A d or limit outside its range is 25." */
+static void timers(void) {
+    static const uint64_t fine[][2] = {{1, 1}, {65535, 255}, {1, 255}, {65535, 1}, {7, 3}};
+    static const uint64_t bad[][2] = {{0, 1}, {65536, 1}, {1, 0}, {1, 256}, {0, 0}, {65536, 256}, {UINT64_MAX, 1}, {1, UINT64_MAX},
+        {4294967296u, 1}, {1, 4294967296u}};
+    size_t i;
+
+    for (i = 0; i < sizeof fine / sizeof fine[0]; i++) {
+        HEARS(pusmarke_deferred(fine[i][0], fine[i][1]), 0, 0, fine[i][0], fine[i][1], IDLE, 0, 0);
+    }
+    for (i = 0; i < sizeof bad / sizeof bad[0]; i++) {
+        HEARS(pusmarke_deferred(bad[i][0], bad[i][1]), PUSMARKE_BAD_TIMER, 0, 0, 0, 0, 0, 0);
+    }
+}
+
+/* "At zero it asks for one full sequence, raises the counter and restarts." "When the counter has reached the limit …, the next expiry
+ * reports the limit once and stops". "If no event is accepted or reset made after it becomes active, the report comes at tick
+ * d * (limit + 1)." */
+static void ticks(void) {
+    static const uint64_t cases[][2] = {{1, 1}, {1, 3}, {2, 1}, {5, 4}, {3, 255}, {65535, 2}};
+    struct pusmarke_deferred t;
+    size_t i;
+
+    for (i = 0; i < sizeof cases / sizeof cases[0]; i++) {
+        const uint64_t d = cases[i][0], limit = cases[i][1], last = d * (limit + 1);
+        struct pusmarke_reception r = pusmarke_fresh(0);
+        uint64_t list[2] = {0}, n, unlike = 0;
+
+        t = HEARS(pusmarke_deferred_eof(&r, list, 2, 9, pusmarke_deferred(d, limit).timer), 0, 0, d, limit, ACTIVE, d, 0);
+        for (n = 1; n <= last + 2 * d; n++) {
+            const struct pusmarke_heard h = pusmarke_tick(t);
+            const uint64_t told = n == last ? PUSMARKE_TICK_LIMIT
+                : n < last && n % d == 0    ? PUSMARKE_TICK_ASK
+                                            : PUSMARKE_TICK_QUIET;
+            unlike += h.answer.refusal != 0 || h.answer.first != told || h.answer.second != 0 || h.answer.third != 0;
+            unlike += h.timer.period != d || h.timer.limit != limit;
+            unlike += h.timer.activity != (n < last ? ACTIVE : DEAF) || h.timer.left != (n < last ? d - n % d : 0);
+            unlike += h.timer.counter != (n < last ? n / d : limit);
+            t = h.timer;
+        }
+        HOLDS(unlike == 0);
+    }
+    /* Any numbers are fine: nothing is left, or the counter is above the limit. Of activity, any number but 0 and 1 is deaf. */
+    t.period = 7, t.limit = 3, t.activity = 1, t.left = 0, t.counter = 2;
+    HEARS(pusmarke_tick(t), 0, PUSMARKE_TICK_ASK, 7, 3, ACTIVE, 7, 3);
+    t.counter = UINT64_MAX;
+    HEARS(pusmarke_tick(t), 0, PUSMARKE_TICK_LIMIT, 7, 3, DEAF, 0, UINT64_MAX);
+    t.limit = UINT64_MAX, t.counter = UINT64_MAX - 1;
+    HEARS(pusmarke_tick(t), 0, PUSMARKE_TICK_ASK, 7, UINT64_MAX, ACTIVE, 7, UINT64_MAX);
+    t.left = UINT64_MAX;
+    HEARS(pusmarke_tick(t), 0, PUSMARKE_TICK_QUIET, 7, UINT64_MAX, ACTIVE, UINT64_MAX - 1, UINT64_MAX - 1);
+    t.activity = 0;
+    HEARS(pusmarke_tick(t), 0, PUSMARKE_TICK_QUIET, 7, UINT64_MAX, IDLE, UINT64_MAX, UINT64_MAX - 1);
+    t.activity = UINT64_MAX;
+    HEARS(pusmarke_tick(t), 0, PUSMARKE_TICK_QUIET, 7, UINT64_MAX, DEAF, UINT64_MAX, UINT64_MAX - 1);
+}
+
+/* The events with their timer, and the reset. */
+static void deferred(void) {
+    uint64_t list[6] = {0}, kept[6];
+    const uint64_t apart[4] = {150, 200, 100, 120}, above[2] = {10, 301};
+    struct pusmarke_reception r = pusmarke_fresh(0), q;
+    struct pusmarke_deferred t = pusmarke_deferred(4, 2).timer;
+    int i;
+
+    /* "Once the size is known and anything is missing, metadata included, it becomes active and starts a countdown of d ticks" */
+    t = HEARS(pusmarke_deferred_data(&r, list, 6, 50, 10, t), 0, 0, 4, 2, IDLE, 0, 0);
+    HOLDS(sized_is(r, 60, 1, 0, 1, 0, 0) && list[0] == 0 && list[1] == 60);
+    t = HEARS(pusmarke_tick(t), 0, PUSMARKE_TICK_QUIET, 4, 2, IDLE, 0, 0);
+    t = HEARS(pusmarke_deferred_eof(&r, list, 6, 300, t), 0, 0, 4, 2, ACTIVE, 4, 0);
+    HOLDS(sized_is(r, 300, 1, 0, 1, 1, 300) && list[0] == 0 && list[1] == 300);
+    for (i = 0; i < 5; i++) {
+        t = pusmarke_tick(t).timer;
+    }
+    /* Noticed data lowers nothing, and does not restart. */
+    t = HEARS(pusmarke_deferred_data(&r, list, 6, 0, 300, t), 0, 0, 4, 2, ACTIVE, 3, 1);
+    /* "An event that lowers the number of missing octets, or the metadata event, zeroes the counter and restarts." */
+    t = HEARS(pusmarke_deferred_metadata(&r, list, 6, t), 0, 0, 4, 2, ACTIVE, 4, 0);
+    HOLDS(sized_is(r, 300, 1, 0, 0, 1, 300));
+    for (i = 0; i < 5; i++) {
+        t = pusmarke_tick(t).timer;
+    }
+    t = HEARS(pusmarke_deferred_data(&r, list, 6, 0, 100, t), 0, 1, 4, 2, ACTIVE, 4, 0);
+    HOLDS(sized_is(r, 300, 1, 0, 0, 1, 300) && list[0] == 100 && list[1] == 300);
+    for (i = 0; i < 5; i++) {
+        t = pusmarke_tick(t).timer;
+    }
+    /* What is held already lowers nothing, and the same size again does not. */
+    t = HEARS(pusmarke_deferred_data(&r, list, 6, 10, 90, t), 0, 1, 4, 2, ACTIVE, 3, 1);
+    t = HEARS(pusmarke_deferred_eof(&r, list, 6, 300, t), 0, 0, 4, 2, ACTIVE, 3, 1);
+    t = HEARS(pusmarke_deferred_data(&r, list, 6, 120, 30, t), 0, 1, 4, 2, ACTIVE, 4, 0);
+    t = HEARS(pusmarke_tick(t), 0, PUSMARKE_TICK_QUIET, 4, 2, ACTIVE, 3, 0);
+    t = HEARS(pusmarke_deferred_data(&r, list, 6, 200, 50, t), 0, 1, 4, 2, ACTIVE, 4, 0);
+    HOLDS(sized_is(r, 300, 3, 0, 0, 1, 300));
+    t = HEARS(pusmarke_tick(t), 0, PUSMARKE_TICK_QUIET, 4, 2, ACTIVE, 3, 0);
+
+    /* Refused events change nothing: each refusal of each event, and of the reset. */
+    memcpy(kept, list, sizeof list);
+    q = r;
+    HEARS(pusmarke_deferred_data(&q, list, 5, 100, 1, t), PUSMARKE_BAD_STORE, 0, 4, 2, ACTIVE, 3, 0);
+    HEARS(pusmarke_deferred_data(&q, list, 6, 100, 0, t), PUSMARKE_EMPTY_SEGMENT, 0, 4, 2, ACTIVE, 3, 0);
+    HEARS(pusmarke_deferred_data(&q, list, 6, 1, UINT64_MAX, t), PUSMARKE_RANGE_TOO_LONG, 0, 4, 2, ACTIVE, 3, 0);
+    HEARS(pusmarke_deferred_data(&q, list, 6, 299, 2, t), PUSMARKE_FILE_SIZE_ERROR, 0, 4, 2, ACTIVE, 3, 0);
+    HEARS(pusmarke_deferred_data(&q, list, 6, 160, 10, t), PUSMARKE_STORE_FULL, 0, 4, 2, ACTIVE, 3, 0);
+    HEARS(pusmarke_deferred_metadata(&q, list, 5, t), PUSMARKE_BAD_STORE, 0, 4, 2, ACTIVE, 3, 0);
+    HEARS(pusmarke_deferred_metadata(&q, list, 6, t), PUSMARKE_ALREADY_KNOWN, 0, 4, 2, ACTIVE, 3, 0);
+    HEARS(pusmarke_deferred_eof(&q, list, 5, 300, t), PUSMARKE_BAD_STORE, 0, 4, 2, ACTIVE, 3, 0);
+    HEARS(pusmarke_deferred_eof(&q, list, 6, 299, t), PUSMARKE_FILE_SIZE_ERROR, 0, 4, 2, ACTIVE, 3, 0);
+    HEARS(pusmarke_deferred_eof(&q, list, 6, 301, t), PUSMARKE_FILE_SIZE_ERROR, 0, 4, 2, ACTIVE, 3, 0);
+    HEARS(pusmarke_reset(t, q, list, 5), PUSMARKE_BAD_STORE, 0, 4, 2, ACTIVE, 3, 0);
+    HOLDS(sized_is(q, 300, 3, 0, 0, 1, 300));
+    q.narrow = 8, q.sized = 0;
+    HEARS(pusmarke_deferred_data(&q, list, 6, NARROW_LIMIT, 1, t), PUSMARKE_LARGE_FILE_SEGMENT_NOT_SUPPORTED, 0, 4, 2, ACTIVE, 3, 0);
+    HEARS(pusmarke_deferred_eof(&q, list, 6, 4294967296u, t), PUSMARKE_LARGE_FILE_SEGMENT_NOT_SUPPORTED, 0, 4, 2, ACTIVE, 3, 0);
+    q.progress = 310;
+    HEARS(pusmarke_deferred_eof(&q, list, 6, 320, t), PUSMARKE_STORE_FULL, 0, 4, 2, ACTIVE, 3, 0);
+    SAME(kept, list);
+    q = r;
+    q.count = 2;
+    memcpy(list, apart, sizeof apart);
+    HEARS(pusmarke_deferred_data(&q, list, 4, 100, 1, t), PUSMARKE_NOT_COALESCED, 0, 4, 2, ACTIVE, 3, 0);
+    HEARS(pusmarke_deferred_metadata(&q, list, 4, t), PUSMARKE_NOT_COALESCED, 0, 4, 2, ACTIVE, 3, 0);
+    HEARS(pusmarke_deferred_eof(&q, list, 4, 300, t), PUSMARKE_NOT_COALESCED, 0, 4, 2, ACTIVE, 3, 0);
+    HEARS(pusmarke_reset(t, q, list, 4), PUSMARKE_NOT_COALESCED, 0, 4, 2, ACTIVE, 3, 0);
+    q.count = 1;
+    memcpy(list, above, sizeof above);
+    HEARS(pusmarke_deferred_data(&q, list, 2, 100, 1, t), PUSMARKE_SCOPE_BELOW_LIST, 0, 4, 2, ACTIVE, 3, 0);
+    HEARS(pusmarke_deferred_metadata(&q, list, 2, t), PUSMARKE_SCOPE_BELOW_LIST, 0, 4, 2, ACTIVE, 3, 0);
+    HEARS(pusmarke_deferred_eof(&q, list, 2, 300, t), PUSMARKE_SCOPE_BELOW_LIST, 0, 4, 2, ACTIVE, 3, 0);
+    HEARS(pusmarke_reset(t, q, list, 2), PUSMARKE_SCOPE_BELOW_LIST, 0, 4, 2, ACTIVE, 3, 0);
+    HOLDS(sized_is(q, 300, 1, 0, 0, 1, 300) && list[0] == 10 && list[1] == 301);
+    memcpy(list, kept, sizeof kept);
+
+    /* "the next expiry reports the limit once and stops, deaf to all but a reset, which zeroes the counter and restarts" */
+    for (i = 0; i < 10; i++) {
+        t = pusmarke_tick(t).timer;
+    }
+    t = HEARS(pusmarke_tick(t), 0, PUSMARKE_TICK_LIMIT, 4, 2, DEAF, 0, 2);
+    t = HEARS(pusmarke_tick(t), 0, PUSMARKE_TICK_QUIET, 4, 2, DEAF, 0, 2);
+    t = HEARS(pusmarke_deferred_data(&r, list, 6, 100, 20, t), 0, 1, 4, 2, DEAF, 0, 2);
+    HOLDS(sized_is(r, 300, 2, 0, 0, 1, 300) && list[0] == 150);
+    t = HEARS(pusmarke_deferred_eof(&r, list, 6, 300, t), 0, 0, 4, 2, DEAF, 0, 2);
+    t.activity = 1000;
+    t = HEARS(pusmarke_deferred_metadata(&r, list, 6, t), PUSMARKE_ALREADY_KNOWN, 0, 4, 2, DEAF, 0, 2);
+    t = HEARS(pusmarke_reset(t, r, list, 6), 0, 0, 4, 2, ACTIVE, 4, 0);
+    t = HEARS(pusmarke_tick(t), 0, PUSMARKE_TICK_QUIET, 4, 2, ACTIVE, 3, 0);
+    t = HEARS(pusmarke_reset(t, r, list, 6), 0, 0, 4, 2, ACTIVE, 4, 0);
+    /* "When nothing is missing, metadata included, it goes inactive." */
+    t = HEARS(pusmarke_tick(t), 0, PUSMARKE_TICK_QUIET, 4, 2, ACTIVE, 3, 0);
+    t = HEARS(pusmarke_deferred_data(&r, list, 6, 0, 300, t), 0, 1, 4, 2, IDLE, 0, 0);
+    HOLDS(sized_is(r, 300, 0, 0, 0, 1, 300));
+    t = HEARS(pusmarke_tick(t), 0, PUSMARKE_TICK_QUIET, 4, 2, IDLE, 0, 0);
+    HEARS(pusmarke_reset(t, r, list, 6), 0, 0, 4, 2, IDLE, 0, 0);
+    t.activity = 2;
+    HEARS(pusmarke_reset(t, r, list, 6), 0, 0, 4, 2, IDLE, 0, 0);
+
+    /* Of an empty file metadata alone is missing. There need not be a list. */
+    r = pusmarke_fresh(1);
+    t = pusmarke_deferred(9, 1).timer;
+    t = HEARS(pusmarke_deferred_eof(&r, NULL, 0, 0, t), 0, 0, 9, 1, ACTIVE, 9, 0);
+    t = HEARS(pusmarke_tick(t), 0, PUSMARKE_TICK_QUIET, 9, 1, ACTIVE, 8, 0);
+    t = HEARS(pusmarke_deferred_metadata(&r, NULL, 0, t), 0, 0, 9, 1, IDLE, 0, 0);
+    HOLDS(sized_is(r, 0, 0, 1, 0, 1, 0));
+
+    /* "activity is judged after each accepted event or reset": made after the end of file it waits for one of these. */
+    r = pusmarke_fresh(0);
+    ACCEPTED(pusmarke_eof(&r, list, 6, 300), 0, 0, 0);
+    t = pusmarke_deferred(5, 1).timer;
+    t = HEARS(pusmarke_tick(t), 0, PUSMARKE_TICK_QUIET, 5, 1, IDLE, 0, 0);
+    t = HEARS(pusmarke_deferred_eof(&r, list, 6, 299, t), PUSMARKE_FILE_SIZE_ERROR, 0, 5, 1, IDLE, 0, 0);
+    HEARS(pusmarke_reset(t, r, list, 6), 0, 0, 5, 1, ACTIVE, 5, 0);
+    HEARS(pusmarke_deferred_eof(&r, list, 6, 300, t), 0, 0, 5, 1, ACTIVE, 5, 0);
+    HEARS(pusmarke_deferred_data(&r, list, 6, 1, 1, t), 0, 0, 5, 1, ACTIVE, 5, 0);
+    HOLDS(sized_is(r, 300, 1, 0, 1, 1, 300));
+}
+
 /* A pass: what comes with holes is asked for until nothing is missing. */
 static void transfer(void) {
     uint64_t list[32] = {0};
@@ -1183,6 +1375,9 @@ int main(void) {
     sequence();
     older_sequence();
     crc_sequence();
+    timers();
+    ticks();
+    deferred();
     transfer();
     printf("%u checks, %u wrong\n", checks, wrong);
     return wrong == 0 ? 0 : 1;

@@ -50,7 +50,8 @@ enum pusmarke_refusal {
     PUSMARKE_ALREADY_KNOWN = 19,
     PUSMARKE_BUDGET_TOO_LARGE = 20,
     PUSMARKE_BAD_TRAILER = 21,
-    PUSMARKE_FILE_SIZE_ERROR = 22
+    PUSMARKE_FILE_SIZE_ERROR = 22,
+    PUSMARKE_BAD_TIMER = 25
 };
 
 /* What a removal did: `first` of an accepted pusmarke_remove. The part is the one that leaves. */
@@ -60,6 +61,20 @@ enum pusmarke_removed {
     PUSMARKE_REMOVED_LEFT = 2,  /* the left part of the pair, from its start on */
     PUSMARKE_REMOVED_RIGHT = 3, /* the right part, up to its end */
     PUSMARKE_REMOVED_SPLIT = 4  /* a part in the middle: the pair became two */
+};
+
+/* What a tick asks of the caller: `first` of the answer of pusmarke_tick. */
+enum pusmarke_ticked {
+    PUSMARKE_TICK_QUIET = 0, /* nothing is to be done */
+    PUSMARKE_TICK_ASK = 1,   /* one full NAK sequence is to be sent */
+    PUSMARKE_TICK_LIMIT = 2  /* the limit is reached: said once, and the timer is deaf then */
+};
+
+/* What a timer is at: `activity` of one that a call hands back. */
+enum pusmarke_activity {
+    PUSMARKE_TIMER_IDLE = 0,   /* the size is not known, or nothing is missing */
+    PUSMARKE_TIMER_ACTIVE = 1, /* it counts down */
+    PUSMARKE_TIMER_DEAF = 2    /* the limit was reported: ticks and events pass it by, until a reset */
 };
 
 /* What a call answers: 0 or the refusal's number, and its values in order, 0 where there is none. */
@@ -79,6 +94,22 @@ struct pusmarke_reception {
     uint64_t missing;  /* whether metadata is missing */
     uint64_t sized;    /* whether the file's size is known */
     uint64_t size;     /* the file's size; not looked at where it is not known */
+};
+
+/* The timer of the deferred NAK procedure, which the caller keeps beside the record of one reception. It moves by value: each call is given
+ * a timer and hands one back, which takes its place. */
+struct pusmarke_deferred {
+    uint64_t period;   /* the ticks of a countdown */
+    uint64_t limit;    /* the asks after which the next countdown ends in the report */
+    uint64_t activity; /* an enum pusmarke_activity; a number above 2 is deaf too, and comes back as 2 */
+    uint64_t left;     /* the ticks that are left of the countdown; 0 unless active */
+    uint64_t counter;  /* the asks since it became active, or since an event or a reset restarted it */
+};
+
+/* What a call of the procedure hands back. */
+struct pusmarke_heard {
+    struct pusmarke_answer answer;
+    struct pusmarke_deferred timer; /* the timer afterwards; the one handed over where the call is refused */
 };
 
 /* Source and destination entity, of entity_length octets each, and the transaction's sequence number, of number_length octets. */
@@ -204,6 +235,41 @@ struct pusmarke_answer pusmarke_held(struct pusmarke_reception record, const uin
  * that nothing has told of is not counted. Nothing changes.
  * Accepted: first is the number, at most progress. Refusals: those of a record. */
 struct pusmarke_answer pusmarke_missing_octets(struct pusmarke_reception record, const uint64_t *list, size_t list_length);
+
+/* The deferred NAK procedure, for a reception whose NAK PDUs are sent by a timer after the end of file. Its inputs are the events below, in
+ * the place of pusmarke_data, pusmarke_metadata and pusmarke_eof, and ticks, which the caller makes at its own pace; no clock is read. An
+ * event that is told to the record alone passes the timer by.
+ *
+ * After each accepted event it is judged: where the size is known and anything is missing, metadata included, the timer is active, else
+ * idle, with left and counter 0. Where it becomes active, left is the period and counter 0. Where it was active, an event that
+ * lowers the number of missing octets, and the metadata event, put left to the period and counter to 0; any other event leaves both. A
+ * refused event changes nothing. A deaf timer hears no event; the record takes it all the same. */
+
+/* A timer of countdowns of d ticks, 1 to 65,535, and a limit of 1 to 255 asks. It is idle, with no look at any record: made after the
+ * end of file, it waits for the next accepted event, of which the same end of file again is one, or for a reset.
+ * Accepted: no value. Refused: a timer that is all 0. Refusals: 25 d or limit outside its range. */
+struct pusmarke_heard pusmarke_deferred(uint64_t d, uint64_t limit);
+
+/* One tick. An active timer counts down; on the last tick of a countdown it asks for one NAK sequence from cursor 0 to the end, raises its
+ * counter and starts anew, or, where the counter has reached the limit, it reports that and is deaf, left 0 and the counter as it was. If
+ * no event is accepted and no reset made after it became active, it asks at ticks d, 2d, up to limit * d, and reports at
+ * d * (limit + 1). Ticks pass by an idle and a deaf timer. Any numbers are fine.
+ * Accepted: first is an enum pusmarke_ticked. It is refused never. */
+struct pusmarke_heard pusmarke_tick(struct pusmarke_deferred timer);
+
+/* A reset, at which the timer is judged whatever it was: active with left the period and counter 0, or idle. Record and list are only
+ * read. Accepted: no value. Refusals: those of a record. */
+struct pusmarke_heard pusmarke_reset(struct pusmarke_deferred timer, struct pusmarke_reception record, const uint64_t *list,
+    size_t list_length);
+
+/* The three events with their timer. What they do to record and list, what they answer and what they refuse is as of pusmarke_data,
+ * pusmarke_metadata and pusmarke_eof. */
+struct pusmarke_heard pusmarke_deferred_data(struct pusmarke_reception *record, uint64_t *list, size_t list_length, uint64_t offset,
+    uint64_t length, struct pusmarke_deferred timer);
+struct pusmarke_heard pusmarke_deferred_metadata(struct pusmarke_reception *record, const uint64_t *list, size_t list_length,
+    struct pusmarke_deferred timer);
+struct pusmarke_heard pusmarke_deferred_eof(struct pusmarke_reception *record, uint64_t *list, size_t list_length, uint64_t size,
+    struct pusmarke_deferred timer);
 
 /* Refusal 13: an identifier length outside 1 to 8, or a number that does not fit its length. The header has
  * H = 4 + 2 * entity_length + number_length octets. A request (0, 0) asks for metadata; it may stand at

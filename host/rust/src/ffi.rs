@@ -22,6 +22,22 @@ pub(crate) struct Record {
     pub size: u64,
 }
 
+#[repr(C)]
+#[derive(Clone, Copy, Debug, PartialEq, Eq)]
+pub(crate) struct Timer {
+    pub period: u64,
+    pub limit: u64,
+    pub activity: u64,
+    pub left: u64,
+    pub counter: u64,
+}
+
+#[repr(C)]
+pub(crate) struct Heard {
+    pub answer: Answer,
+    pub timer: Timer,
+}
+
 /// Whose transaction a NAK PDU is about.
 #[repr(C)]
 #[derive(Clone, Copy, Debug, PartialEq, Eq)]
@@ -98,6 +114,19 @@ extern "C" {
     pub(crate) fn pusmarke_eof(record: *mut Record, list: *mut u64, list_length: usize, size: u64) -> Answer;
     pub(crate) fn pusmarke_held(record: Record, list: *const u64, list_length: usize, start: u64, end: u64) -> Answer;
     pub(crate) fn pusmarke_missing_octets(record: Record, list: *const u64, list_length: usize) -> Answer;
+    pub(crate) fn pusmarke_deferred(d: u64, limit: u64) -> Heard;
+    pub(crate) fn pusmarke_tick(timer: Timer) -> Heard;
+    pub(crate) fn pusmarke_reset(timer: Timer, record: Record, list: *const u64, list_length: usize) -> Heard;
+    pub(crate) fn pusmarke_deferred_data(
+        record: *mut Record,
+        list: *mut u64,
+        list_length: usize,
+        offset: u64,
+        length: u64,
+        timer: Timer,
+    ) -> Heard;
+    pub(crate) fn pusmarke_deferred_metadata(record: *mut Record, list: *const u64, list_length: usize, timer: Timer) -> Heard;
+    pub(crate) fn pusmarke_deferred_eof(record: *mut Record, list: *mut u64, list_length: usize, size: u64, timer: Timer) -> Heard;
     pub(crate) fn pusmarke_write(
         identity: Identity,
         form: Form,

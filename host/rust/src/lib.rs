@@ -3,14 +3,16 @@
 //!
 //! [`Store`] is the store of lost segments over a list that the caller lends, with the methods of cfdp-rs's `LostSegmentStore`.
 //! [`Reception`] keeps such a list by what comes, and says whether a range was kept. [`NakSequence`] writes the NAK PDUs that ask for
-//! what is missing, [`write_nak`] writes one, and [`NakReader`] reads one; with a CRC trailer where the [`Form`] says so. What does not
-//! fit is refused: [`Refusal`] says why, and nothing lent changes.
+//! what is missing, [`write_nak`] writes one, and [`NakReader`] reads one; with a CRC trailer where the [`Form`] says so. [`Timed`] is a
+//! reception with a timer that says when to ask: the deferred NAK procedure. What does not fit is refused: [`Refusal`] says why, and
+//! nothing lent changes.
 //!
 //! The crate allocates nothing, has no dependency and does not panic. The work is done by `libpusmarke_c.a`, whose functions are
 //! proved; the wrappers here are not.
 #![no_std]
 #![deny(missing_docs)]
 
+mod deferred;
 mod ffi;
 mod nak;
 mod reception;
@@ -18,6 +20,7 @@ mod refusal;
 mod sequence;
 mod store;
 
+pub use deferred::{Activity, Deferred, Tick, Timed};
 pub use ffi::Identity;
 pub use nak::{write_nak, Edition, FileFlag, Form, NakReader};
 pub use reception::{Data, Reception};

@@ -1,5 +1,5 @@
 //! The reception of one file.
-use crate::{ffi, store, Form, Identity, NakSequence, Refusal, Segments, Width};
+use crate::{ffi, store, Deferred, Form, Identity, NakSequence, Refusal, Segments, Timed, Width};
 
 /// What became of the data of an accepted event.
 #[derive(Clone, Copy, Debug, PartialEq, Eq)]
@@ -10,11 +10,22 @@ pub enum Data {
     Kept,
 }
 
+impl Data {
+    /// What the value of an accepted event stands for.
+    pub(crate) fn of(first: u64) -> Data {
+        if first == 0 {
+            Data::Noticed
+        } else {
+            Data::Kept
+        }
+    }
+}
+
 /// The reception of one file: how far it has come, and what is missing below that, in a list that the caller lends.
 #[derive(Debug)]
 pub struct Reception<'a> {
-    record: ffi::Record,
-    list: &'a mut [u64],
+    pub(crate) record: ffi::Record,
+    pub(crate) list: &'a mut [u64],
     width: Width,
 }
 
@@ -31,7 +42,7 @@ impl<'a> Reception<'a> {
     /// are not filed.
     pub fn data(&mut self, offset: u64, length: u64) -> Result<Data, Refusal> {
         let answer = unsafe { ffi::pusmarke_data(&mut self.record, self.list.as_mut_ptr(), self.list.len(), offset, length) };
-        Ok(if answer.accepted()?.first == 0 { Data::Noticed } else { Data::Kept })
+        Ok(Data::of(answer.accepted()?.first))
     }
 
     /// Metadata came. Refused: 19, where it is known already.
@@ -118,6 +129,11 @@ impl<'a> Reception<'a> {
     pub fn missing_octets(&self) -> Result<u64, Refusal> {
         let answer = unsafe { ffi::pusmarke_missing_octets(self.record, self.list.as_ptr(), self.list.len()) };
         Ok(answer.accepted()?.first)
+    }
+
+    /// The same reception with a timer that hears of each event: the deferred NAK procedure.
+    pub fn with_timer(self, timer: Deferred) -> Timed<'a> {
+        Timed::new(self, timer)
     }
 
     /// The NAK PDUs of that form, of at most `largest` octets each, that ask for all that is missing.

@@ -55,6 +55,8 @@ pub enum Refusal {
     BadTrailer,
     /// 22: a file size below progress, or another than the known one; data past the known size.
     FileSizeError,
+    /// 25: a countdown outside 1 to 65,535 ticks, or a limit outside 1 to 255.
+    BadTimer,
     /// A number that this crate does not know: the archive is not the one that the crate belongs to.
     Unknown(u64),
 }
@@ -86,6 +88,7 @@ impl Refusal {
             20 => Refusal::BudgetTooLarge,
             21 => Refusal::BadTrailer,
             22 => Refusal::FileSizeError,
+            25 => Refusal::BadTimer,
             other => Refusal::Unknown(other),
         })
     }
@@ -115,6 +118,7 @@ impl Refusal {
             Refusal::BudgetTooLarge => 20,
             Refusal::BadTrailer => 21,
             Refusal::FileSizeError => 22,
+            Refusal::BadTimer => 25,
             Refusal::Unknown(number) => *number,
         }
     }
@@ -155,6 +159,7 @@ impl fmt::Display for Refusal {
             Refusal::BudgetTooLarge => f.write_str("budget is above 16 PDUs"),
             Refusal::BadTrailer => f.write_str("trailer is not the CRC of the packet"),
             Refusal::FileSizeError => f.write_str("file size does not fit what came"),
+            Refusal::BadTimer => f.write_str("timer is out of bounds"),
             Refusal::Unknown(number) => write!(f, "number {number}, which this crate does not know"),
         }
     }

@@ -1,7 +1,7 @@
 //! The declarations of src/ffi.rs are those of host/include/pusmarke.h: functions with their argument types in order, and structs with
 //! their fields. The refusals of the crate and of the header are those of the definition, by number and name;
-//! what a removal did has the same numbers in both.
-use pusmarke::{Refusal, Removed};
+//! what a removal did, what a tick asks for and what a timer is at have the same numbers in both.
+use pusmarke::{Activity, Refusal, Removed, Tick};
 use std::{collections::BTreeMap, fs, path::Path};
 
 fn text(path: &str) -> String {
@@ -32,6 +32,8 @@ fn from_c(declaration: &str) -> String {
         "size_t" => "usize",
         "struct pusmarke_answer" => "Answer",
         "struct pusmarke_reception" => "Record",
+        "struct pusmarke_deferred" => "Timer",
+        "struct pusmarke_heard" => "Heard",
         "struct pusmarke_identity" => "Identity",
         "struct pusmarke_form" => "Form",
         "struct pusmarke_nak" => "Nak",
@@ -99,7 +101,7 @@ fn fields_of_rust(text: &str, name: &str) -> Vec<(String, String)> {
 fn functions() {
     let c = functions_of_c(&bare(&text("../include/pusmarke.h")));
     let rust = functions_of_rust(&text("src/ffi.rs"));
-    assert_eq!(c.len(), 16);
+    assert_eq!(c.len(), 22);
     assert_eq!(c, rust);
 }
 
@@ -110,6 +112,8 @@ fn structs() {
     for (a, b) in [
         ("pusmarke_answer", "Answer"),
         ("pusmarke_reception", "Record"),
+        ("pusmarke_deferred", "Timer"),
+        ("pusmarke_heard", "Heard"),
         ("pusmarke_identity", "Identity"),
         ("pusmarke_form", "Form"),
         ("pusmarke_nak", "Nak"),
@@ -174,4 +178,17 @@ fn removals() {
         assert_eq!(removed.is_some(), *number != 0);
     }
     assert_eq!(Removed::of(5, 7, 8), Err(Refusal::Unknown(5)));
+}
+
+#[test]
+fn timers() {
+    let c = bare(&text("../include/pusmarke.h"));
+    let ticks = names_of_c(&c, "pusmarke_ticked", "PUSMARKE_TICK_");
+    let activities = names_of_c(&c, "pusmarke_activity", "PUSMARKE_TIMER_");
+    assert_eq!((ticks.len(), activities.len()), (3, 3));
+    for number in 0..3 {
+        assert_eq!(format!("{:?}", Tick::of(number).unwrap()), ticks[&number]);
+        assert_eq!(format!("{:?}", Activity::of(number)), activities[&number]);
+    }
+    assert_eq!((Tick::of(3), Activity::of(3)), (Err(Refusal::Unknown(3)), Activity::Deaf));
 }
