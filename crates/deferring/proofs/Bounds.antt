@@ -46,18 +46,18 @@ module _ (d limit : ℕ) (some : 0 < d) where
   judged-in t h activity.Deaf due news = h
 
   heard-in : (t : Deferred) → InBounds d limit t → (s : State) (e : Event) → InBounds d limit (heard t s e)
-  heard-in t h s e = go (isAccepted s e)
+  heard-in t h s e = go (isAccepted s e) refl
     where
-      go : (u : Bool) → InBounds d limit (cond u (judgedAs (t .activity) (isDue (step s e .rec) (step s e .list)) (isNews s e) t) t)
-      go true = judged-in t h (t .activity) (isDue (step s e .rec) (step s e .list)) (isNews s e)
-      go false = h
+      go : (u : Bool) → isAccepted s e ≡ u → InBounds d limit (heard t s e)
+      go true f = rw f (judged-in t h (t .activity) (isDue (step s e .rec) (step s e .list)) (isNews s e))
+      go false f = rw f h
 
   reset-in : (t : Deferred) → InBounds d limit t → (rec : Reception) (xs : List ℕ) → InBounds d limit (resetTimer t rec xs)
-  reset-in t h rec xs = go (eqb (resetOutcome rec xs .number) 0)
+  reset-in t h rec xs = go (eqb (resetOutcome rec xs .number) 0) refl
     where
-      go : (u : Bool) → InBounds d limit (cond u (cond (isDue rec xs) (goneActive t) (goneIdle t)) t)
-      go true = either-in t h (isDue rec xs)
-      go false = h
+      go : (u : Bool) → eqb (resetOutcome rec xs .number) 0 ≡ u → InBounds d limit (resetTimer t rec xs)
+      go true f = rw f (either-in t h (isDue rec xs))
+      go false f = rw f h
 
   counted-in : (t : Deferred) → InBounds d limit t → t .activity ≡ activity.Active → InBounds d limit (countedDown t .timer)
   counted-in t h e = go (isExpiry t) (isSpent t) refl refl

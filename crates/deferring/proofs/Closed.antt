@@ -84,17 +84,17 @@ module _ (d : ℕ) where
   -- whatever comes with at most m ticks, it hears to the end
   still-hears : (js : List Input) (k : Watch) → ticksOf js < d → Safe d (ticksOf js) (k .timer) → isDeaf (turns k js .timer .activity) ≡ false
   still-hears [] k l h = h .hears
-  still-hears (Comes e ∷ js) k l h = still-hears js (turn k (Comes e)) l (go (isAccepted (k .state) e))
+  still-hears (Comes e ∷ js) k l h = still-hears js (turn k (Comes e)) l (go (isAccepted (k .state) e) refl)
     where
-      go : (u : Bool) → Safe d (ticksOf js) (cond u (judgedAs (k .timer .activity) (isDue (step (k .state) e .rec) (step (k .state) e .list)) (isNews (k .state) e) (k .timer)) (k .timer))
-      go true = judged-safe (ticksOf js) (k .timer) l h (k .timer .activity) (isDue (step (k .state) e .rec) (step (k .state) e .list)) (isNews (k .state) e)
-      go false = h
+      go : (u : Bool) → isAccepted (k .state) e ≡ u → Safe d (ticksOf js) (heard (k .timer) (k .state) e)
+      go true f = rw f (judged-safe (ticksOf js) (k .timer) l h (k .timer .activity) (isDue (step (k .state) e .rec) (step (k .state) e .list)) (isNews (k .state) e))
+      go false f = rw f h
   still-hears (Tick ∷ js) k l h = still-hears js (turn k Tick) (omega arith) (ticked-safe (ticksOf js) (k .timer) h)
-  still-hears (Reset ∷ js) k l h = still-hears js (turn k Reset) l (go (eqb (resetOutcome (k .state .rec) (k .state .list) .number) 0))
+  still-hears (Reset ∷ js) k l h = still-hears js (turn k Reset) l (go (eqb (resetOutcome (k .state .rec) (k .state .list) .number) 0) refl)
     where
-      go : (u : Bool) → Safe d (ticksOf js) (cond u (cond (isDue (k .state .rec) (k .state .list)) (goneActive (k .timer)) (goneIdle (k .timer))) (k .timer))
-      go true = either-safe (ticksOf js) (k .timer) l h (isDue (k .state .rec) (k .state .list))
-      go false = h
+      go : (u : Bool) → eqb (resetOutcome (k .state .rec) (k .state .list) .number) 0 ≡ u → Safe d (ticksOf js) (resetTimer (k .timer) (k .state .rec) (k .state .list))
+      go true f = rw f (either-safe (ticksOf js) (k .timer) l h (isDue (k .state .rec) (k .state .list)))
+      go false f = rw f h
 
 -- an ask leaves the timer active, with its full countdown
 abbrev isAsk : TickAnswer → Bool

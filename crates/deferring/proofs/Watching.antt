@@ -62,7 +62,9 @@ turn-follows : (k : Watch) (i : Input) → Follows k → Follows (turn k i)
 turn-follows k (Comes e) h = go (isAccepted (k .state) e) refl
   where
     go : (u : Bool) → isAccepted (k .state) e ≡ u → Follows (turn k (Comes e))
-    go false f = let w = refused-nothing k e f in λ g. ap (λ (m : Watch). isActive (m .timer .activity)) w ∙ h (ap (λ (m : Watch). isDeaf (m .timer .activity)) (sym w) ∙ g) ∙ ap (λ (m : Watch). dueNow (m .state)) (sym w)
+    go false f =
+        let w = refused-nothing k e f in
+        λ g. ap (λ (m : Watch). isActive (m .timer .activity)) w ∙ h (ap (λ (m : Watch). isDeaf (m .timer .activity)) (sym w) ∙ g) ∙ ap (λ (m : Watch). dueNow (m .state)) (sym w)
     go true f = hearing (isDeaf (k .timer .activity)) refl
       where
         hearing : (b : Bool) → isDeaf (k .timer .activity) ≡ b → Follows (turn k (Comes e))
