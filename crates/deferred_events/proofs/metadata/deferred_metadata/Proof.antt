@@ -54,10 +54,10 @@ use Rattle.deferring.proofs.metadata.MetadataHeardDone as S
 use Rattle.deferring.proofs.metadata.MetadataHeardDone.Laws as S′
 use Rattle.deferring.proofs.metadata.MetadataHeard as N
 use Rattle.deferring.proofs.metadata.MetadataHeard.Laws as N′
-use Rattle.deferred_events.proofs.metadata.deferred_metadata_core as core
-use Rattle.deferred_events.proofs.metadata.deferred_metadata_core.Symbol as core-def
-use Rattle.deferred_events.proofs.metadata.deferred_metadata_core.Symbol.{name as #deferred-events·metadata·deferred-metadata-core}
-use Rattle.deferred_events.proofs.metadata.deferred_metadata_core.Met as core-thm
+use Rattle.deferred.proofs.metadata.deferred_metadata_core as core
+use Rattle.deferred.proofs.metadata.deferred_metadata_core.Symbol as core-def
+use Rattle.deferred.proofs.metadata.deferred_metadata_core.Symbol.{name as #deferred·metadata·deferred-metadata-core}
+use Rattle.deferred.proofs.metadata.deferred_metadata_core.Met as core-thm
 use Rattle.deferred_events.proofs.metadata.deferred_metadata.Key.{name as #deferred-events·metadata·deferred-metadata}
 use Rattle.deferred_events.proofs.metadata.deferred_metadata as f
 use Rattle.deferred_events.proofs.metadata.deferred_metadata.Statement as stated
@@ -138,7 +138,7 @@ module _ {M : Type 1} (𝓤 : URA M) (H : Heap 𝓤) (A : Atoms 𝓤) (W : Given
       nothing ! $ move ! (2 ∷ 0 ∷ []) $ fjoin ! $ move ! (1 ∷ 0 ∷ []) $ fjoin ! $ owned ! D.the-row (Is D.the-row) (LL.makes D.the-type D′.the-plain 𝓤 H A) tm _ tm-is $ fjoin ! $
       owned ! N.the-row (Is N.the-row) (LL.makes N.the-type N′.the-plain 𝓤 H A) (r .heard) _ is $ move ! (1 ∷ 0 ∷ []) $ done !
 
-  module _ (C : Calls 𝓤 H) (Λ : Loops 𝓤 H) (fm : FmC 𝓤 H (W .laws) C) (known : Triple 𝓤 (C #deferred-events·metadata·deferred-metadata-core) (Core 𝓤 H A at-mem run)) where
+  module _ (C : Calls 𝓤 H) (Λ : Loops 𝓤 H) (fm : FmC 𝓤 H (W .laws) C) (known : Triple 𝓤 (C #deferred·metadata·deferred-metadata-core) (Core 𝓤 H A at-mem run)) where
     walk : Is (ShrSlice (named 1) κ′ u64) x (s ∷ []) → ent 𝓤 (onEntry 𝓤 H A f.signature (κ, (κ′, tt)) (q, (q′, tt)) a vals) (WpFn 𝓤 H C Λ code.function (tval tm ∷ vptr b o ∷ s ∷ []) Post)
     walk p =
         qed W ((‵ (flft κ q) ⊛ ‵ (flft κ′ q′) ⊛ ‵ ftrue) ∷ ‵ (owns (D.the-row ∷ MutRef (named 0) κ T.the-row ∷ ShrSlice (named 1) κ′ u64 ∷ []) a vals) ∷ []) ∵ enter ! C Λ code.function
@@ -178,7 +178,7 @@ module _ {M : Type 1} (𝓤 : URA M) (H : Heap 𝓤) (A : Atoms 𝓤) (W : Given
         keep ! (0 ∷ 1 ∷ 2 ∷ 4 ∷ 5 ∷ []) $ by ! (exits r (LL.owed S.the-type S′.the-laws r _ is .0) e)))))))))))))
 
 module _ {M : Type 1} (𝓤 : URA M) (H : Heap 𝓤) (A : Atoms 𝓤) (W : Given 𝓤 H A) (mem : Memory → SProp 𝓤) (run : Routine → Fun 𝓤) where
-  f-walks : (C : Calls 𝓤 H) (Λ : Loops 𝓤 H) → FmC 𝓤 H (W .laws) C → Triple 𝓤 (C #deferred-events·metadata·deferred-metadata-core) (Core 𝓤 H A mem run)
+  f-walks : (C : Calls 𝓤 H) (Λ : Loops 𝓤 H) → FmC 𝓤 H (W .laws) C → Triple 𝓤 (C #deferred·metadata·deferred-metadata-core) (Core 𝓤 H A mem run)
       → Walks 𝓤 H A f.ended stayed (WpFn 𝓤 H C Λ code.function) (f.clauses 𝓤 H A mem run)
   f-walks C Λ fm known = walked 𝓤 H A f.ended stayed (f.clauses 𝓤 H A mem run) (WpFn 𝓤 H C Λ code.function) (λ κs. (LL.vals D.the-type D′.the-laws, (ptr-vals, (slice-vals, tt))))
       (λ κs. (LL.tells D.the-type D′.the-laws, (mut-tells (named 0) (κs .0) T.the-row, (shr-slice-tells (named 1) (κs .1 .0) u64, tt))))
@@ -189,7 +189,7 @@ module _ {M : Type 1} (𝓤 : URA M) (H : Heap 𝓤) (A : Atoms 𝓤) (W : Given
   all-go = (goes-none 𝓤 H A W 2 (λ _. D.the-row) yes (λ κs x f. refl), (goes-ref 𝓤 H A W 2 0 tt (plain (λ _. T.the-row)), (goes-none-slice 𝓤 H A W 2 (1 ∷ []) tt (plain (λ _. u64)) yes, tt)))
 
 f-meets : {M : Type 1} (𝓤 : URA M) (H : Heap 𝓤) (A : Atoms 𝓤) → Given 𝓤 H A → (mem : Memory → SProp 𝓤) (run : Routine → Fun 𝓤) (𝓣 : Tables 𝓤 H)
-    → Triple 𝓤 (𝓣 .C #deferred-events·metadata·deferred-metadata-core) (Core 𝓤 H A mem run)
+    → Triple 𝓤 (𝓣 .C #deferred·metadata·deferred-metadata-core) (Core 𝓤 H A mem run)
     → Meets 𝓤 H A f.signature (WpFn 𝓤 H (𝓣 .C) (𝓣 .Λ) code.function) (f.spec 𝓤 H A mem run)
 f-meets 𝓤 H A W mem run 𝓣 known =
     walk-meets 𝓤 H A f.ended stayed W (all-go 𝓤 H A W mem run) (f.clauses 𝓤 H A mem run)
@@ -201,5 +201,5 @@ deferred-metadata-spec 𝓤 H 𝓜 𝓖 𝓡 =
     entered 𝓤 H (tripleOf 𝓤 H (𝓖 .A) f.signature (f.spec 𝓤 H (𝓖 .A) (𝓜 .mem) (𝓡 .run)))
     (tables 𝓤 H 𝓜 𝓡 code.env .C) (tables 𝓤 H 𝓜 𝓡 code.env .Λ) #deferred-events·metadata·deferred-metadata code.function (code.unfolded 𝓤 H 𝓜 𝓡)
     (f-meets 𝓤 H (𝓖 .A) (givenOf 𝓤 H 𝓜 𝓖) (𝓜 .mem) (𝓡 .run) (tablesOf 𝓤 H 𝓜 (tables 𝓤 H 𝓜 𝓡 code.env))
-    (cited 𝓤 H (Core 𝓤 H (𝓖 .A) (𝓜 .mem) (𝓡 .run)) 𝓜 𝓡 code.env #deferred-events·metadata·deferred-metadata-core core-def.routine code.calls-deferred-events·metadata·deferred-metadata-core
+    (cited 𝓤 H (Core 𝓤 H (𝓖 .A) (𝓜 .mem) (𝓡 .run)) 𝓜 𝓡 code.env #deferred·metadata·deferred-metadata-core core-def.routine code.calls-deferred·metadata·deferred-metadata-core
     (core-thm.met 𝓤 H 𝓜 𝓖 𝓡)))

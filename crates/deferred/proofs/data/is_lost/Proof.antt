@@ -7,8 +7,8 @@ use lib.ListN.{getD}
 use Rattle.outcomes.specs.Outcome.{Outcome, accepted}
 use Rattle.outcomes.proofs.Refusals.{no-refusal}
 use Rattle.holding.specs.Held.{heldCase}
-use Rattle.deferred_events.proofs.data.is_lost.Statement.{statement}
-use Rattle.deferred_events.proofs.data.is_lost.Tie as tie
+use Rattle.deferred.proofs.data.is_lost.Statement.{statement}
+use Rattle.deferred.proofs.data.is_lost.Tie as tie
 
 -- the two answers differ
 yes-not-no : accepted (1 ∷ []) ≡ accepted (0 ∷ []) → ⊥

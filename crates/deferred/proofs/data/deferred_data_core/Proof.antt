@@ -8,8 +8,8 @@ use mathlib.Core.Bool.{true}
 use Prim.Native.Nat.{ℕ}
 use Rattle.reception.specs.History.{Data, State, isAccepted, step}
 use Rattle.deferring.proofs.Hearing.{heard-by}
-use Rattle.deferred_events.proofs.data.deferred_data_core.Statement.{statement}
-use Rattle.deferred_events.proofs.data.deferred_data_core.Tie as tie
+use Rattle.deferred.proofs.data.deferred_data_core.Statement.{statement}
+use Rattle.deferred.proofs.data.deferred_data_core.Tie as tie
 
 -- data leaves the size known or not
 sized-before : (s : State) (o n : ℕ) → isAccepted s (Data o n) ≡ true → step s (Data o n) .rec .sized ≡ true → s .rec .sized ≡ true

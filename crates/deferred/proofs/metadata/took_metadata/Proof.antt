@@ -2,8 +2,8 @@
 use mathlib.Core.Path.{sym}
 use Rattle.outcomes.proofs.Refusals.{refuses}
 use borrow.Author.Needs.{needs}
-use Rattle.deferred_events.proofs.metadata.took_metadata.Statement.{statement}
-use Rattle.deferred_events.proofs.metadata.took_metadata.Tie as tie
+use Rattle.deferred.proofs.metadata.took_metadata.Statement.{statement}
+use Rattle.deferred.proofs.metadata.took_metadata.Tie as tie
 
 enum-told : tie.Need-enum-told
 enum-told c = search needs

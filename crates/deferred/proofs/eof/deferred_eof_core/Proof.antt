@@ -8,8 +8,8 @@ use mathlib.Core.Bool.{false}
 use Rattle.reception.specs.History.{Eof}
 use Rattle.deferring.proofs.Lowering.{eof-never}
 use Rattle.deferring.proofs.Hearing.{accepted-passed, heard-by}
-use Rattle.deferred_events.proofs.eof.deferred_eof_core.Statement.{statement}
-use Rattle.deferred_events.proofs.eof.deferred_eof_core.Tie as tie
+use Rattle.deferred.proofs.eof.deferred_eof_core.Statement.{statement}
+use Rattle.deferred.proofs.eof.deferred_eof_core.Tie as tie
 
 eof-core-requires : tie.Need-eof-core-requires
 eof-core-requires c κs = search needs

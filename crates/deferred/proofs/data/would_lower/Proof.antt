@@ -1,8 +1,8 @@
 -- `would_lower` meets its contract: what `held` says of the data before it comes.
 use borrow.Author.Needs.{needs}
-use Rattle.deferred_events.proofs.data.Lost.{never-long, waits-lowers, lost-lowers}
-use Rattle.deferred_events.proofs.data.would_lower.Statement.{statement}
-use Rattle.deferred_events.proofs.data.would_lower.Tie as tie
+use Rattle.deferred.proofs.data.Lost.{never-long, waits-lowers, lost-lowers}
+use Rattle.deferred.proofs.data.would_lower.Statement.{statement}
+use Rattle.deferred.proofs.data.would_lower.Tie as tie
 
 returns : tie.Need-returns
 returns c =

@@ -7,8 +7,8 @@ use Rattle.deferring.specs.Hear.{stateOf}
 use Rattle.deferring.proofs.Hearing.{heard-by}
 use mathlib.Core.Bool.{true}
 use Rattle.reception.specs.History.{Metadata}
-use Rattle.deferred_events.proofs.metadata.deferred_metadata_core.Statement.{statement}
-use Rattle.deferred_events.proofs.metadata.deferred_metadata_core.Tie as tie
+use Rattle.deferred.proofs.metadata.deferred_metadata_core.Statement.{statement}
+use Rattle.deferred.proofs.metadata.deferred_metadata_core.Tie as tie
 
 metadata-core-requires : tie.Need-metadata-core-requires
 metadata-core-requires c κs = search needs

@@ -4,8 +4,8 @@ use mathlib.Core.Path.{_≡_, refl, sym, ap, _∙_}
 use mathlib.Core.Bool.{Bool, true, false, true≢false}
 use Rattle.deferring.specs.declared.Activity.{Activity}
 use Rattle.deferring.specs.declared.Activity.the-variants as activity
-use Rattle.deferred_events.proofs.data.would_restart.Statement.{statement}
-use Rattle.deferred_events.proofs.data.would_restart.Tie as tie
+use Rattle.deferred.proofs.data.would_restart.Statement.{statement}
+use Rattle.deferred.proofs.data.would_restart.Tie as tie
 
 -- neither idle nor deaf is active
 abbrev active : Activity → Bool
