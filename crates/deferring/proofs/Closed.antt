@@ -14,7 +14,7 @@ use Rattle.ranges.specs.declared.Width.{Width}
 use Rattle.reception.specs.History.{Event, State, fresh, isAccepted, step, run, metadataCame, toldSize, rangesOf}
 use Rattle.reception.proofs.Records.{mark-metadata, step-mark}
 use Rattle.holding.specs.Count.{isCovered}
-use Rattle.holding.specs.Whole.{AllWhole}
+use Rattle.holding.specs.Whole.{AllWhole, NoneRefused}
 use Rattle.holding.specs.MissingOctets.{missingOctets}
 use Rattle.holding.proofs.Counting.{count-none}
 use Rattle.sequence.specs.Entries.{Asking, roundedUp}
@@ -22,7 +22,7 @@ use Rattle.sequence.specs.Sequence.{Order, Allowed, asked}
 use Rattle.sequence.specs.Calls.{Call, AllFit, octetsBy, budgets}
 use Rattle.sequence.specs.Parted.{parted, requestsRead}
 use Rattle.closing.specs.Arrival.{dataOf}
-use Rattle.closing.proofs.Closing.{closes-whole}
+use Rattle.closing.proofs.Closing.{closes-covered, closes-whole}
 use Rattle.deferring.specs.declared.Activity.{Activity}
 use Rattle.deferring.specs.declared.Activity.the-variants as activity
 use Rattle.deferring.specs.declared.Deferred.{Deferred}
@@ -155,10 +155,10 @@ module _
     abbrev requests : List Range
     requests = requestsRead (o .form .edition) (parted (octetsBy (reached .rec) (reached .list) o 0 cs))
 
-    -- their data comes whole, in any order, repeated, with ticks and resets among it: unless the timer is deaf in the end, it is idle
-    pub closes-idle : (js : List Input) → AllWhole requests (eventsOf js) → ((x : ℕ) → Covers x requests → Covers x (dataOf (eventsOf js)))
-        → isDeaf (turns at-ask js .timer .activity) ≡ false → turns at-ask js .timer .activity ≡ activity.Idle
-    closes-idle js a c h = idle-only (turns at-ask js .timer .activity) h (f ∙ n)
+    -- whatever comes and empties the list: unless the timer is deaf in the end, it is idle
+    emptied-idle : (js : List Input) → rangesOf (run reached (eventsOf js)) ≡ [] → isDeaf (turns at-ask js .timer .activity) ≡ false
+        → turns at-ask js .timer .activity ≡ activity.Idle
+    emptied-idle js e h = idle-only (turns at-ask js .timer .activity) h (f ∙ n)
       where
         f : isActive (turns at-ask js .timer .activity) ≡ isDue (turns at-ask js .state .rec) (turns at-ask js .state .list)
         f = turns-follow js at-ask (turns-follow is (freshWatch d limit w xs) (λ g. refl)) h
@@ -169,8 +169,17 @@ module _
         n : isDue (turns at-ask js .state .rec) (turns at-ask js .state .list) ≡ false
         n =
             ap (λ (s : State). isDue (s .rec) (s .list)) after
-            ∙ none-due (run reached (eventsOf js)) (run-known (eventsOf js) reached (mark-metadata w xs (eventsOf is) ∙ ap not known))
-            (closes-whole w xs N size few (eventsOf is) known z told o ok cs fit enough (eventsOf js) a c .1)
+            ∙ none-due (run reached (eventsOf js)) (run-known (eventsOf js) reached (mark-metadata w xs (eventsOf is) ∙ ap not known)) e
+
+    -- the data for the requests comes whole, in any order, repeated, with ticks and resets among it
+    pub closes-idle : (js : List Input) → AllWhole requests (eventsOf js) → ((x : ℕ) → Covers x requests → Covers x (dataOf (eventsOf js)))
+        → isDeaf (turns at-ask js .timer .activity) ≡ false → turns at-ask js .timer .activity ≡ activity.Idle
+    closes-idle js a c = emptied-idle js (closes-whole w xs N size few (eventsOf is) known z told o ok cs fit enough (eventsOf js) a c .1)
+
+    -- or in any pieces, of which none is refused
+    pub closes-idle-covered : (js : List Input) → ((x : ℕ) → Covers x requests → Covers x (dataOf (eventsOf js))) → NoneRefused reached (eventsOf js)
+        → isDeaf (turns at-ask js .timer .activity) ≡ false → turns at-ask js .timer .activity ≡ activity.Idle
+    closes-idle-covered js c a = emptied-idle js (closes-covered w xs N size few (eventsOf is) known z told o ok cs fit enough (eventsOf js) c a)
 
     -- and where a tick asked and fewer than d ticks come meanwhile, it is idle
     pub closes-between : answerNow at-ask ≡ answer.Ask → (js : List Input) → ticksOf js < d
