@@ -1,10 +1,10 @@
 -- From make on, whatever comes: d and the limit stay, the counter never passes the limit, and 1 to d ticks are left exactly while active.
-use mathlib.Core.Path.{_≡_, refl, sym, _∙_}
-use mathlib.Core.Bool.{Bool, true, false, _||_, cond}
+use mathlib.Core.Path.{_≡_, refl}
+use mathlib.Core.Bool.{Bool, true, false, cond}
 use mathlib.Core.List.{List, [], _∷_}
-use Prim.Native.Nat.{ℕ, _+_, _-_, _≤_, _<_}
+use Prim.Native.Nat.{ℕ, _-_, _≤_, _<_}
 use native.Mathlib.Omega.{arith}
-use lib.Dec.{leb, eqb}
+use lib.Dec.{eqb}
 use borrow.Author.Tests.{leb-true, leb-false, eqb-false}
 use Rattle.ranges.proofs.Test.{or-false}
 use Rattle.reception.specs.declared.Reception.{Reception}
@@ -14,7 +14,7 @@ use Rattle.deferring.specs.declared.Activity.the-variants as activity
 use Rattle.deferring.specs.declared.Deferred.{Deferred}
 use Rattle.deferring.specs.Timer.{goneActive, goneIdle}
 use Rattle.deferring.specs.Make.{isOutside, isBadTimer, mostTicks, mostAsks, freshTimer}
-use Rattle.deferring.specs.Tick.{isExpiry, isSpent, expired, countedDown, tickedAs, ticked}
+use Rattle.deferring.specs.Tick.{isExpiry, isSpent, countedDown, tickedAs, ticked}
 use Rattle.deferring.specs.Hear.{isDue, isNews, judgedAs, heard}
 use Rattle.deferring.specs.Reset.{resetOutcome, resetTimer}
 use Rattle.deferring.specs.Inputs.{Input, Comes, Tick, Reset, Watch, turn, turns}

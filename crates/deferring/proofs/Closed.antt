@@ -1,13 +1,13 @@
 -- A transfer that closes stops asking: where one full sequence is sent at an ask and the data for it comes whole before the next expiry,
 -- the timer goes idle.
 use mathlib.Core.Path.{_≡_, refl, sym, ap, _∙_}
-use mathlib.Core.Bool.{Bool, true, false, _&&_, _||_, not, cond, true≢false}
+use mathlib.Core.Bool.{Bool, true, false, not, cond, true≢false}
 use mathlib.Core.List.{List, [], _∷_}
-use Prim.Native.Nat.{ℕ, zero, suc, _-_, _*_, _≤_, _<_}
+use Prim.Native.Nat.{ℕ, suc, _-_, _*_, _≤_, _<_}
 use native.Mathlib.Omega.{arith}
 use lib.ListN.{length}
-use lib.Dec.{leb, ltb, eqb}
-use borrow.Author.Tests.{leb-true, leb-false}
+use lib.Dec.{eqb}
+use borrow.Author.Tests.{leb-true}
 use Rattle.ranges.specs.Range.{Range, Covers}
 use Rattle.ranges.specs.Store.{mostPairs}
 use Rattle.ranges.specs.declared.Width.{Width}
@@ -17,7 +17,7 @@ use Rattle.holding.specs.Count.{isCovered}
 use Rattle.holding.specs.Whole.{AllWhole, NoneRefused}
 use Rattle.holding.specs.MissingOctets.{missingOctets}
 use Rattle.holding.proofs.Counting.{count-none}
-use Rattle.sequence.specs.Entries.{Asking, roundedUp}
+use Rattle.sequence.specs.Entries.{roundedUp}
 use Rattle.sequence.specs.Sequence.{Order, Allowed, asked}
 use Rattle.sequence.specs.Calls.{Call, AllFit, octetsBy, budgets}
 use Rattle.sequence.specs.Parted.{parted, requestsRead}
@@ -34,8 +34,8 @@ use Rattle.deferring.specs.Tick.{isExpiry, isSpent, countedDown, tickedA
 use Rattle.deferring.specs.Hear.{isDue, isNews, judgedAs, heard}
 use Rattle.deferring.specs.Reset.{resetOutcome, resetTimer}
 use Rattle.deferring.specs.Inputs.{Input, Comes, Tick, Reset, Watch, freshWatch, turn, turns, answerNow, eventsOf, ticksOf}
-use Rattle.deferring.specs.Bounds.{Stands, InBounds}
-use Rattle.deferring.proofs.Runs.{run-alone, turns-then}
+use Rattle.deferring.specs.Bounds.{InBounds}
+use Rattle.deferring.proofs.Runs.{run-alone}
 use Rattle.deferring.proofs.Bounds.{turn-in, always-in-bounds, some-ticks}
 use Rattle.deferring.proofs.Watching.{turns-follow}
 

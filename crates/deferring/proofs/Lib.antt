@@ -9,3 +9,4 @@ pub mod Closed
 pub mod Cases
 pub mod News
 pub mod Undisturbed
+pub mod Becoming

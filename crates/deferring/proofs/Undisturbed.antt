@@ -1,9 +1,9 @@
 -- Events that are no news, while something is still missing, delay nothing: the ticks answer as if those events had not come.
-use mathlib.Core.Path.{_≡_, refl, sym, ap, _∙_}
+use mathlib.Core.Path.{_≡_, refl, ap, _∙_}
 use mathlib.Core.Bool.{Bool, true, false, true≢false}
 use mathlib.Core.List.{List, [], _∷_}
 use mathlib.Core.Logic.{_⊎_, inl, inr}
-use Prim.Native.Nat.{ℕ, suc, _<_}
+use Prim.Native.Nat.{suc, _<_}
 use Rattle.reception.specs.History.{Event, State, isAccepted, step}
 use Rattle.deferring.specs.declared.Activity.{Activity}
 use Rattle.deferring.specs.declared.Activity.the-variants as activity

@@ -1,10 +1,9 @@
 -- What `held` answers of data before it is accepted says whether the data lowers the missing octets.
 use mathlib.Core.Path.{_≡_, refl, sym, ap, _∙_}
-use mathlib.Core.Bool.{Bool, true, false, _&&_, not, cond, true≢false}
+use mathlib.Core.Bool.{Bool, true, false, not, cond, true≢false}
 use mathlib.Core.List.{List, [], _∷_}
 use Prim.Native.Nat.{ℕ, _+_, _-_, _<_}
 use native.Mathlib.Omega.{arith}
-use lib.Dec.{leb}
 use borrow.Author.Tests.{le-leb, le-ltb, lt-ltb, ne-eqb}
 use Rattle.ranges.specs.Range.{some, shares}
 use Rattle.outcomes.specs.Outcome.{accepted}
