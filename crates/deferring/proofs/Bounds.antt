@@ -1,10 +1,10 @@
 -- From make on, whatever comes: d and the limit stay, the counter never passes the limit, and 1 to d ticks are left exactly while active.
-use mathlib.Core.Path.{_≡_, refl, sym, _∙_}
-use mathlib.Core.Bool.{Bool, true, false, _||_, cond}
+use mathlib.Core.Path.{_≡_, refl}
+use mathlib.Core.Bool.{Bool, true, false, cond}
 use mathlib.Core.List.{List, [], _∷_}
-use Prim.Native.Nat.{ℕ, _+_, _-_, _≤_, _<_}
+use Prim.Native.Nat.{ℕ, _-_, _≤_, _<_}
 use native.Mathlib.Omega.{arith}
-use lib.Dec.{leb, eqb}
+use lib.Dec.{eqb}
 use borrow.Author.Tests.{leb-true, leb-false, eqb-false}
 use Rattle.ranges.proofs.Test.{or-false}
 use Rattle.reception.specs.declared.Reception.{Reception}
@@ -14,7 +14,7 @@ use Rattle.deferring.specs.declared.Activity.the-variants as activity
 use Rattle.deferring.specs.declared.Deferred.{Deferred}
 use Rattle.deferring.specs.Timer.{goneActive, goneIdle}
 use Rattle.deferring.specs.Make.{isOutside, isBadTimer, mostTicks, mostAsks, freshTimer}
-use Rattle.deferring.specs.Tick.{isExpiry, isSpent, expired, countedDown, tickedAs, ticked}
+use Rattle.deferring.specs.Tick.{isExpiry, isSpent, countedDown, tickedAs, ticked}
 use Rattle.deferring.specs.Hear.{isDue, isNews, judgedAs, heard}
 use Rattle.deferring.specs.Reset.{resetOutcome, resetTimer}
 use Rattle.deferring.specs.Inputs.{Input, Comes, Tick, Reset, Watch, turn, turns}
@@ -46,18 +46,18 @@ module _ (d limit : ℕ) (some : 0 < d) where
   judged-in t h activity.Deaf due news = h
 
   heard-in : (t : Deferred) → InBounds d limit t → (s : State) (e : Event) → InBounds d limit (heard t s e)
-  heard-in t h s e = go (isAccepted s e)
+  heard-in t h s e = go (isAccepted s e) refl
     where
-      go : (u : Bool) → InBounds d limit (cond u (judgedAs (t .activity) (isDue (step s e .rec) (step s e .list)) (isNews s e) t) t)
-      go true = judged-in t h (t .activity) (isDue (step s e .rec) (step s e .list)) (isNews s e)
-      go false = h
+      go : (u : Bool) → isAccepted s e ≡ u → InBounds d limit (heard t s e)
+      go true f = rw f (judged-in t h (t .activity) (isDue (step s e .rec) (step s e .list)) (isNews s e))
+      go false f = rw f h
 
   reset-in : (t : Deferred) → InBounds d limit t → (rec : Reception) (xs : List ℕ) → InBounds d limit (resetTimer t rec xs)
-  reset-in t h rec xs = go (eqb (resetOutcome rec xs .number) 0)
+  reset-in t h rec xs = go (eqb (resetOutcome rec xs .number) 0) refl
     where
-      go : (u : Bool) → InBounds d limit (cond u (cond (isDue rec xs) (goneActive t) (goneIdle t)) t)
-      go true = either-in t h (isDue rec xs)
-      go false = h
+      go : (u : Bool) → eqb (resetOutcome rec xs .number) 0 ≡ u → InBounds d limit (resetTimer t rec xs)
+      go true f = rw f (either-in t h (isDue rec xs))
+      go false f = rw f h
 
   counted-in : (t : Deferred) → InBounds d limit t → t .activity ≡ activity.Active → InBounds d limit (countedDown t .timer)
   counted-in t h e = go (isExpiry t) (isSpent t) refl refl

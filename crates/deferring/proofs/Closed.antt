@@ -1,28 +1,28 @@
 -- A transfer that closes stops asking: where one full sequence is sent at an ask and the data for it comes whole before the next expiry,
 -- the timer goes idle.
 use mathlib.Core.Path.{_≡_, refl, sym, ap, _∙_}
-use mathlib.Core.Bool.{Bool, true, false, _&&_, _||_, not, cond, true≢false}
+use mathlib.Core.Bool.{Bool, true, false, not, cond, true≢false}
 use mathlib.Core.List.{List, [], _∷_}
-use Prim.Native.Nat.{ℕ, zero, suc, _-_, _*_, _≤_, _<_}
+use Prim.Native.Nat.{ℕ, suc, _-_, _*_, _≤_, _<_}
 use native.Mathlib.Omega.{arith}
 use lib.ListN.{length}
-use lib.Dec.{leb, ltb, eqb}
-use borrow.Author.Tests.{leb-true, leb-false}
+use lib.Dec.{eqb}
+use borrow.Author.Tests.{leb-true}
 use Rattle.ranges.specs.Range.{Range, Covers}
 use Rattle.ranges.specs.Store.{mostPairs}
 use Rattle.ranges.specs.declared.Width.{Width}
 use Rattle.reception.specs.History.{Event, State, fresh, isAccepted, step, run, metadataCame, toldSize, rangesOf}
 use Rattle.reception.proofs.Records.{mark-metadata, step-mark}
 use Rattle.holding.specs.Count.{isCovered}
-use Rattle.holding.specs.Whole.{AllWhole}
+use Rattle.holding.specs.Whole.{AllWhole, NoneRefused}
 use Rattle.holding.specs.MissingOctets.{missingOctets}
 use Rattle.holding.proofs.Counting.{count-none}
-use Rattle.sequence.specs.Entries.{Asking, roundedUp}
+use Rattle.sequence.specs.Entries.{roundedUp}
 use Rattle.sequence.specs.Sequence.{Order, Allowed, asked}
 use Rattle.sequence.specs.Calls.{Call, AllFit, octetsBy, budgets}
 use Rattle.sequence.specs.Parted.{parted, requestsRead}
 use Rattle.closing.specs.Arrival.{dataOf}
-use Rattle.closing.proofs.Closing.{closes-whole}
+use Rattle.closing.proofs.Closing.{closes-covered, closes-whole}
 use Rattle.deferring.specs.declared.Activity.{Activity}
 use Rattle.deferring.specs.declared.Activity.the-variants as activity
 use Rattle.deferring.specs.declared.Deferred.{Deferred}
@@ -34,8 +34,8 @@ use Rattle.deferring.specs.Tick.{isExpiry, isSpent, countedDown, tickedA
 use Rattle.deferring.specs.Hear.{isDue, isNews, judgedAs, heard}
 use Rattle.deferring.specs.Reset.{resetOutcome, resetTimer}
 use Rattle.deferring.specs.Inputs.{Input, Comes, Tick, Reset, Watch, freshWatch, turn, turns, answerNow, eventsOf, ticksOf}
-use Rattle.deferring.specs.Bounds.{Stands, InBounds}
-use Rattle.deferring.proofs.Runs.{run-alone, turns-then}
+use Rattle.deferring.specs.Bounds.{InBounds}
+use Rattle.deferring.proofs.Runs.{run-alone}
 use Rattle.deferring.proofs.Bounds.{turn-in, always-in-bounds, some-ticks}
 use Rattle.deferring.proofs.Watching.{turns-follow}
 
@@ -84,17 +84,17 @@ module _ (d : ℕ) where
   -- whatever comes with at most m ticks, it hears to the end
   still-hears : (js : List Input) (k : Watch) → ticksOf js < d → Safe d (ticksOf js) (k .timer) → isDeaf (turns k js .timer .activity) ≡ false
   still-hears [] k l h = h .hears
-  still-hears (Comes e ∷ js) k l h = still-hears js (turn k (Comes e)) l (go (isAccepted (k .state) e))
+  still-hears (Comes e ∷ js) k l h = still-hears js (turn k (Comes e)) l (go (isAccepted (k .state) e) refl)
     where
-      go : (u : Bool) → Safe d (ticksOf js) (cond u (judgedAs (k .timer .activity) (isDue (step (k .state) e .rec) (step (k .state) e .list)) (isNews (k .state) e) (k .timer)) (k .timer))
-      go true = judged-safe (ticksOf js) (k .timer) l h (k .timer .activity) (isDue (step (k .state) e .rec) (step (k .state) e .list)) (isNews (k .state) e)
-      go false = h
+      go : (u : Bool) → isAccepted (k .state) e ≡ u → Safe d (ticksOf js) (heard (k .timer) (k .state) e)
+      go true f = rw f (judged-safe (ticksOf js) (k .timer) l h (k .timer .activity) (isDue (step (k .state) e .rec) (step (k .state) e .list)) (isNews (k .state) e))
+      go false f = rw f h
   still-hears (Tick ∷ js) k l h = still-hears js (turn k Tick) (omega arith) (ticked-safe (ticksOf js) (k .timer) h)
-  still-hears (Reset ∷ js) k l h = still-hears js (turn k Reset) l (go (eqb (resetOutcome (k .state .rec) (k .state .list) .number) 0))
+  still-hears (Reset ∷ js) k l h = still-hears js (turn k Reset) l (go (eqb (resetOutcome (k .state .rec) (k .state .list) .number) 0) refl)
     where
-      go : (u : Bool) → Safe d (ticksOf js) (cond u (cond (isDue (k .state .rec) (k .state .list)) (goneActive (k .timer)) (goneIdle (k .timer))) (k .timer))
-      go true = either-safe (ticksOf js) (k .timer) l h (isDue (k .state .rec) (k .state .list))
-      go false = h
+      go : (u : Bool) → eqb (resetOutcome (k .state .rec) (k .state .list) .number) 0 ≡ u → Safe d (ticksOf js) (resetTimer (k .timer) (k .state .rec) (k .state .list))
+      go true f = rw f (either-safe (ticksOf js) (k .timer) l h (isDue (k .state .rec) (k .state .list)))
+      go false f = rw f h
 
 -- an ask leaves the timer active, with its full countdown
 abbrev isAsk : TickAnswer → Bool
@@ -155,10 +155,10 @@ module _
     abbrev requests : List Range
     requests = requestsRead (o .form .edition) (parted (octetsBy (reached .rec) (reached .list) o 0 cs))
 
-    -- their data comes whole, in any order, repeated, with ticks and resets among it: unless the timer is deaf in the end, it is idle
-    pub closes-idle : (js : List Input) → AllWhole requests (eventsOf js) → ((x : ℕ) → Covers x requests → Covers x (dataOf (eventsOf js)))
-        → isDeaf (turns at-ask js .timer .activity) ≡ false → turns at-ask js .timer .activity ≡ activity.Idle
-    closes-idle js a c h = idle-only (turns at-ask js .timer .activity) h (f ∙ n)
+    -- whatever comes and empties the list: unless the timer is deaf in the end, it is idle
+    emptied-idle : (js : List Input) → rangesOf (run reached (eventsOf js)) ≡ [] → isDeaf (turns at-ask js .timer .activity) ≡ false
+        → turns at-ask js .timer .activity ≡ activity.Idle
+    emptied-idle js e h = idle-only (turns at-ask js .timer .activity) h (f ∙ n)
       where
         f : isActive (turns at-ask js .timer .activity) ≡ isDue (turns at-ask js .state .rec) (turns at-ask js .state .list)
         f = turns-follow js at-ask (turns-follow is (freshWatch d limit w xs) (λ g. refl)) h
@@ -169,8 +169,17 @@ module _
         n : isDue (turns at-ask js .state .rec) (turns at-ask js .state .list) ≡ false
         n =
             ap (λ (s : State). isDue (s .rec) (s .list)) after
-            ∙ none-due (run reached (eventsOf js)) (run-known (eventsOf js) reached (mark-metadata w xs (eventsOf is) ∙ ap not known))
-            (closes-whole w xs N size few (eventsOf is) known z told o ok cs fit enough (eventsOf js) a c .1)
+            ∙ none-due (run reached (eventsOf js)) (run-known (eventsOf js) reached (mark-metadata w xs (eventsOf is) ∙ ap not known)) e
+
+    -- the data for the requests comes whole, in any order, repeated, with ticks and resets among it
+    pub closes-idle : (js : List Input) → AllWhole requests (eventsOf js) → ((x : ℕ) → Covers x requests → Covers x (dataOf (eventsOf js)))
+        → isDeaf (turns at-ask js .timer .activity) ≡ false → turns at-ask js .timer .activity ≡ activity.Idle
+    closes-idle js a c = emptied-idle js (closes-whole w xs N size few (eventsOf is) known z told o ok cs fit enough (eventsOf js) a c .1)
+
+    -- or in any pieces, of which none is refused
+    pub closes-idle-covered : (js : List Input) → ((x : ℕ) → Covers x requests → Covers x (dataOf (eventsOf js))) → NoneRefused reached (eventsOf js)
+        → isDeaf (turns at-ask js .timer .activity) ≡ false → turns at-ask js .timer .activity ≡ activity.Idle
+    closes-idle-covered js c a = emptied-idle js (closes-covered w xs N size few (eventsOf is) known z told o ok cs fit enough (eventsOf js) c a)
 
     -- and where a tick asked and fewer than d ticks come meanwhile, it is idle
     pub closes-between : answerNow at-ask ≡ answer.Ask → (js : List Input) → ticksOf js < d

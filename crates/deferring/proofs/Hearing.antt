@@ -1,10 +1,10 @@
 -- What a call makes of the timer, from what it has at hand: whether the event was taken, the record afterwards, its count for the octets
 -- missing, and whether there was news where that matters.
 use mathlib.Core.Path.{_≡_, refl, sym, ap, _∙_}
-use mathlib.Core.Bool.{Bool, true, false, _&&_, _||_, not, cond, true≢false}
+use mathlib.Core.Bool.{Bool, true, false, _&&_, _||_, cond, true≢false}
 use mathlib.Core.List.{List, []}
 use Prim.Native.Nat.{ℕ}
-use lib.Dec.{ltb, eqb}
+use lib.Dec.{ltb}
 use Rattle.outcomes.specs.Outcome.{accepted}
 use Rattle.outcomes.proofs.FirstOf.{first-accepted}
 use Rattle.reception.specs.declared.Reception.{Reception}

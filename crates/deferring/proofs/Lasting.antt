@@ -1,13 +1,13 @@
 -- A sound record, whatever its history: each event leaves a sound one, and what the list then has is said of the list before.
 use mathlib.Core.Path.{_≡_, refl, sym, _∙_}
 use mathlib.Core.Bool.{Bool, true, false, _&&_, not, true≢false}
-use mathlib.Core.List.{List, [], _∷_}
+use mathlib.Core.List.{[], _∷_}
 use mathlib.Core.Logic.{_⊎_}
 use Prim.Native.Nat.{ℕ, _+_, _<_}
 use native.Mathlib.Omega.{arith}
 use lib.ListN.{length}
 use Rattle.ranges.specs.Range.{Covers}
-use Rattle.ranges.specs.Store.{counted, capacity}
+use Rattle.ranges.specs.Store.{capacity}
 use Rattle.ranges.proofs.Flat.{flat-counted}
 use Rattle.reception.proofs.Ends.{below-last}
 use Rattle.ranges.proofs.Without.{part-covers}

@@ -8,3 +8,5 @@ pub mod Watching
 pub mod Closed
 pub mod Cases
 pub mod News
+pub mod Undisturbed
+pub mod Becoming

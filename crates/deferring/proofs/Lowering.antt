@@ -1,7 +1,7 @@
 -- Which accepted events lower the number of missing octets: with the size known, data that has an offset in common with the list, once the
 -- metadata is known; and no end of file.
 use mathlib.Core.Path.{_≡_, refl, sym, ap, _∙_}
-use mathlib.Core.Bool.{Bool, true, false, _&&_, not, cond, true≢false}
+use mathlib.Core.Bool.{Bool, true, false, _&&_, not, true≢false}
 use mathlib.Core.List.{List, [], _∷_}
 use mathlib.Core.Logic.{_⊎_, inl, inr, ⊎-elim}
 use Prim.Native.Nat.{ℕ, zero, suc, _+_, _≤_, _<_}
@@ -16,7 +16,7 @@ use Rattle.ranges.proofs.Some.{shares-set}
 use Rattle.reception.specs.declared.Reception.{Reception}
 use Rattle.ranges.specs.Store.{counted}
 use Rattle.reception.specs.Record.{Passed}
-use Rattle.reception.specs.History.{Event, Data, Metadata, Eof, State, isAccepted, step, keptBy, rangesOf}
+use Rattle.reception.specs.History.{Event, Data, Eof, State, isAccepted, step, keptBy, rangesOf}
 use Rattle.reception.proofs.Sound.{sound}
 use Rattle.reception.proofs.data.Accepted.{taken}
 use Rattle.reception.proofs.eof.Accepted.{eof-taken}

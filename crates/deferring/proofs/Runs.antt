@@ -4,25 +4,17 @@
 use mathlib.Core.Path.{_≡_, refl, sym, ap, _∙_}
 use mathlib.Core.Bool.{Bool, true, false, cond, true≢false}
 use mathlib.Core.List.{List, [], _∷_, _++_}
-use mathlib.Core.Logic.{_⊎_, inl, inr, ⊎-elim}
-use Prim.Native.Nat.{ℕ, _≤_, _<_}
-use native.Mathlib.Omega.{arith}
-use lib.Dec.{leb, eqb}
-use borrow.Author.Tests.{leb-true, leb-false, eqb-false, ltb-false}
-use Rattle.ranges.proofs.Test.{or-false}
-use Rattle.outcomes.specs.Outcome.{Outcome}
+use lib.Dec.{eqb}
 use Rattle.reception.specs.History.{Event, State, isAccepted, step, run}
 use Rattle.reception.proofs.Records.{refused-same}
 use Rattle.deferring.specs.declared.Activity.{Activity}
 use Rattle.deferring.specs.declared.Activity.the-variants as activity
 use Rattle.deferring.specs.declared.Deferred.{Deferred}
-use Rattle.deferring.specs.declared.tick.TickAnswer.{TickAnswer}
 use Rattle.deferring.specs.declared.tick.TickAnswer.the-variants as answer
 use Rattle.deferring.specs.Timer.{goneActive, goneIdle, isActive, isDeaf}
-use Rattle.deferring.specs.Make.{isOutside, isBadTimer, mostTicks, mostAsks, freshTimer}
-use Rattle.deferring.specs.Tick.{isExpiry, isSpent, tickedAs, ticked}
-use Rattle.deferring.specs.Hear.{isDue, isNews, judgedAs, judged, heard}
-use Rattle.deferring.specs.Reset.{resetOutcome, restarted, resetTimer}
+use Rattle.deferring.specs.Tick.{tickedAs}
+use Rattle.deferring.specs.Hear.{isDue, isNews, judgedAs, heard}
+use Rattle.deferring.specs.Reset.{resetOutcome, resetTimer}
 use Rattle.deferring.specs.Inputs.{Input, Comes, Tick, Reset, Watch, turn, turns, answerNow, eventsOf, NoReset}
 
 -- the record and the list after a run are those that the events alone leave

@@ -9,7 +9,7 @@ use native.Mathlib.Decide.{decLt}
 use native.Mathlib.Omega.{arith}
 use lib.Arith.{digits-mod, digits-div}
 use lib.Dec.{leb, eqb}
-use borrow.Author.Tests.{le-leb, lt-leb, eq-eqb, ne-eqb, eqb-true}
+use borrow.Author.Tests.{le-leb, lt-leb, eq-eqb, ne-eqb, eqb-true, leb-true}
 use Rattle.deferring.specs.declared.Activity.{Activity}
 use Rattle.deferring.specs.declared.Activity.the-variants as activity
 use Rattle.deferring.specs.declared.Deferred.{Deferred}
@@ -106,7 +106,7 @@ module _ (t : Deferred) (h : 0 < t .period) where
       ∙ ap (λ (x : TickDone). x .timer) (one-tick (n / t .period) (n % t .period) (suc n / t .period) (suc n % t .period) (mod-lt n h) (next n (t .period) h))
 
   -- tick number n + 1 of ticks alone
-  answer-after : (n : ℕ) → ticked (ticks n (goneActive t)) .answer ≡ answerAt (t .period) (t .limit) (suc n)
+  pub answer-after : (n : ℕ) → ticked (ticks n (goneActive t)) .answer ≡ answerAt (t .period) (t .limit) (suc n)
   answer-after n =
       ap (λ (u : Deferred). ticked u .answer) (after-ticks n)
       ∙ ap (λ (x : TickDone). x .answer) (one-tick (n / t .period) (n % t .period) (suc n / t .period) (suc n % t .period) (mod-lt n h) (next n (t .period) h))
@@ -172,3 +172,21 @@ reported-once d limit n e = go (eqb (n % d) 0) (leb (n / d) limit) (eqb (n / d) 
         let s : n / d * d + n % d ≡ n = div-add-mod' n d in
         let m : n / d * d ≡ (limit + 1) * d = ap (λ (x : ℕ). x * d) q in
         omega arith
+
+-- nor does it ask at another
+abbrev isAsking : TickAnswer → Bool
+isAsking answer.Quiet = false
+isAsking answer.Ask = true
+isAsking answer.Limit = false
+
+pub asked-only : (d limit n : ℕ) → answerAt d limit n ≡ answer.Ask → (n ≡ d * (n / d)) × (n / d ≤ limit)
+asked-only d limit n e = go (eqb (n % d) 0) (leb (n / d) limit) (eqb (n / d) (limit + 1)) refl refl refl
+  where
+    go : (a b c : Bool) → eqb (n % d) 0 ≡ a → leb (n / d) limit ≡ b → eqb (n / d) (limit + 1) ≡ c → (n ≡ d * (n / d)) × (n / d ≤ limit)
+    go false b c f g k = let w : answer.Quiet ≡ answer.Ask = rw f at e in absurd (true≢false (sym (ap isAsking w)))
+    go true false true f g k = let w : answer.Limit ≡ answer.Ask = rw (f, g, k) at e in absurd (true≢false (sym (ap isAsking w)))
+    go true false false f g k = let w : answer.Quiet ≡ answer.Ask = rw (f, g, k) at e in absurd (true≢false (sym (ap isAsking w)))
+    go true true c f g k =
+        let r : n % d ≡ 0 = eqb-true _ _ f in
+        let s : n / d * d + n % d ≡ n = div-add-mod' n d in
+        (omega arith, leb-true _ _ g)

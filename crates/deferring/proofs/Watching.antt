@@ -1,21 +1,20 @@
 -- From a fresh reception and a fresh timer, over any run: unless it is deaf, the timer is active exactly where the size was told and the
 -- metadata or an octet is missing; and only then it asks.
 use mathlib.Core.Path.{_≡_, refl, sym, ap, _∙_}
-use mathlib.Core.Bool.{Bool, true, false, _&&_, _||_, not, cond, true≢false}
+use mathlib.Core.Bool.{Bool, true, false, _||_, not, cond, true≢false}
 use mathlib.Core.List.{List, [], _∷_}
 use mathlib.Core.Logic.{_⊎_, inl, inr, ⊎-elim, _↔_}
 use Prim.Native.Nat.{ℕ, zero, suc, _*_, _≤_, _<_}
 use native.Mathlib.Omega.{arith}
-use lib.ListN.{length, getD}
+use lib.ListN.{length}
 use lib.Dec.{ltb, eqb}
 use borrow.Author.Tests.{ltb-true, ltb-false}
-use Rattle.ranges.specs.Range.{Range, Covers}
+use Rattle.ranges.specs.Range.{Covers}
 use Rattle.ranges.specs.Store.{mostPairs}
 use Rattle.ranges.proofs.Test.{or-true}
 use Rattle.ranges.specs.declared.Width.{Width}
-use Rattle.reception.specs.declared.Reception.{Reception}
-use Rattle.reception.specs.History.{Event, State, fresh, isAccepted, step, run, metadataCame, toldSize, Missing, rangesOf}
-use Rattle.reception.proofs.Records.{mark-metadata, sizeOf, told-size}
+use Rattle.reception.specs.History.{Event, State, fresh, isAccepted, run, metadataCame, Missing, rangesOf}
+use Rattle.reception.proofs.Records.{mark-metadata, told-size}
 use Rattle.reception.proofs.Histories.{missing-exact, holds}
 use Rattle.holding.specs.Count.{countBelow, isCovered}
 use Rattle.holding.specs.MissingOctets.{missingOctets}
@@ -24,12 +23,11 @@ use Rattle.holding.proofs.Sizes.{sized-of}
 use Rattle.deferring.specs.declared.Activity.{Activity}
 use Rattle.deferring.specs.declared.Activity.the-variants as activity
 use Rattle.deferring.specs.declared.Deferred.{Deferred}
-use Rattle.deferring.specs.declared.tick.TickAnswer.{TickAnswer}
 use Rattle.deferring.specs.declared.tick.TickAnswer.the-variants as answer
 use Rattle.deferring.specs.Timer.{goneActive, goneIdle, isActive, isDeaf}
 use Rattle.deferring.specs.Make.{freshTimer}
-use Rattle.deferring.specs.Tick.{isExpiry, isSpent, countedDown, tickedAs, ticked}
-use Rattle.deferring.specs.Hear.{isDue, isNews, judgedAs, heard}
+use Rattle.deferring.specs.Tick.{isExpiry, isSpent, countedDown, tickedAs}
+use Rattle.deferring.specs.Hear.{isDue}
 use Rattle.deferring.specs.Reset.{resetOutcome}
 use Rattle.deferring.specs.Inputs.{Input, Comes, Tick, Reset, Watch, freshWatch, turn, turns, answerNow, eventsOf, Due}
 use Rattle.deferring.proofs.Runs.{run-alone, refused-nothing, reset-restarts, reset-refused, judged-exactly, deaf-stays}
@@ -62,7 +60,9 @@ turn-follows : (k : Watch) (i : Input) → Follows k → Follows (turn k i)
 turn-follows k (Comes e) h = go (isAccepted (k .state) e) refl
   where
     go : (u : Bool) → isAccepted (k .state) e ≡ u → Follows (turn k (Comes e))
-    go false f = let w = refused-nothing k e f in λ g. ap (λ (m : Watch). isActive (m .timer .activity)) w ∙ h (ap (λ (m : Watch). isDeaf (m .timer .activity)) (sym w) ∙ g) ∙ ap (λ (m : Watch). dueNow (m .state)) (sym w)
+    go false f =
+        let w = refused-nothing k e f in
+        λ g. ap (λ (m : Watch). isActive (m .timer .activity)) w ∙ h (ap (λ (m : Watch). isDeaf (m .timer .activity)) (sym w) ∙ g) ∙ ap (λ (m : Watch). dueNow (m .state)) (sym w)
     go true f = hearing (isDeaf (k .timer .activity)) refl
       where
         hearing : (b : Bool) → isDeaf (k .timer .activity) ≡ b → Follows (turn k (Comes e))

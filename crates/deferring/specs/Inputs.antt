@@ -1,7 +1,7 @@
 -- Histories of a reception with its timer: inputs are events, ticks and resets; what one input does, and what a list of them leaves.
 use Prim.Native.Nat.{ℕ, zero, suc, _+_, _/_, _%_}
 use mathlib.Core.Path.{_≡_}
-use mathlib.Core.Bool.{Bool, false, cond}
+use mathlib.Core.Bool.{true, false, cond}
 use mathlib.Core.List.{List, [], _∷_}
 use mathlib.Core.Logic.{_⊎_}
 use lib.Dec.{leb, eqb}
@@ -12,7 +12,7 @@ use Rattle.deferring.specs.declared.tick.TickAnswer.{TickAnswer}
 use Rattle.deferring.specs.declared.tick.TickAnswer.the-variants as answer
 use Rattle.deferring.specs.Make.{freshTimer}
 use Rattle.deferring.specs.Tick.{ticked}
-use Rattle.deferring.specs.Hear.{heard}
+use Rattle.deferring.specs.Hear.{isDue, isNews, heard}
 use Rattle.deferring.specs.Reset.{resetTimer}
 
 pub data Input : Type 0 where
@@ -74,6 +74,15 @@ NothingTaken k [] = Unit {0}
 NothingTaken k (Comes e ∷ is) = (isAccepted (k .state) e ≡ false) × NothingTaken (turn k (Comes e)) is
 NothingTaken k (Tick ∷ is) = NothingTaken (turn k Tick) is
 NothingTaken k (Reset ∷ is) = ⊥
+
+-- No reset is made, and each event is refused, or is no news and leaves the timer due.
+abbrev pub Undisturbed : Watch → List Input → Type 0
+Undisturbed k [] = Unit {0}
+Undisturbed k (Comes e ∷ is) =
+    ((isAccepted (k .state) e ≡ false) ⊎ ((isNews (k .state) e ≡ false) × (isDue (step (k .state) e .rec) (step (k .state) e .list) ≡ true)))
+    × Undisturbed (turn k (Comes e)) is
+Undisturbed k (Tick ∷ is) = Undisturbed (turn k Tick) is
+Undisturbed k (Reset ∷ is) = ⊥
 
 -- After the events the size was told, and the metadata did not come or an octet is missing.
 abbrev pub Due : State → List Event → Type 0

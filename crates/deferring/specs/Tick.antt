@@ -1,5 +1,5 @@
 -- A tick of the timer (document 02, C-22). The rules are for any numbers, also for those that no call leaves in a timer.
-use Prim.Native.Nat.{ℕ, _+_, _-_}
+use Prim.Native.Nat.{_+_, _-_}
 use mathlib.Core.Bool.{Bool, cond}
 use lib.Dec.{leb}
 use Rattle.deferring.specs.declared.Activity.{Activity}
