@@ -106,7 +106,21 @@ fn read_all(
     s
 }
 
-// Answers all lines; a last piece without a newline is a line if it isn't empty.
+// A last piece without a newline is a line if it isn't empty.
+fn answer_last(
+    s: State,
+    line: &mut [u8],
+    memory: &mut [u64],
+    values: &mut [u64; 8209],
+    buf: &mut [u8],
+    out: &mut [u8; 65536],
+) -> State {
+    if s.filled == 0 {
+        return s;
+    }
+    commands::end_line(s, line, memory, values, buf, out)
+}
+
 fn answer_all(
     fd: i32,
     name: &[u8],
@@ -117,11 +131,7 @@ fn answer_all(
     out: &mut [u8; 65536],
 ) {
     let s = read_all(fd, name, line, memory, values, buf, out);
-    if s.filled == 0 {
-        print::flush(out, s.at);
-        return;
-    }
-    let last = commands::end_line(s, line, memory, values, buf, out);
+    let last = answer_last(s, line, memory, values, buf, out);
     print::flush(out, last.at);
 }
 

@@ -52,7 +52,7 @@ fn plain_data(s: State, list: &mut [u64], offset: u64, length: u64) -> Received 
 fn timed_data(s: State, list: &mut [u64], offset: u64, length: u64) -> Received {
     let rec = s.rec;
     let timer = state::timer_of(s);
-    let done = deferred_events::data::deferred_data_core(timer, rec, list, offset, length);
+    let done = deferred::data::deferred_data_core(timer, rec, list, offset, length);
     let heard = done.heard;
     let answer = heard.answer;
     let next = heard.timer;
@@ -101,7 +101,7 @@ fn plain_metadata(s: State, list: &[u64]) -> Received {
 fn timed_metadata(s: State, list: &[u64]) -> Received {
     let rec = s.rec;
     let timer = state::timer_of(s);
-    let done = deferred_events::metadata::deferred_metadata_core(timer, rec, list);
+    let done = deferred::metadata::deferred_metadata_core(timer, rec, list);
     let heard = done.heard;
     let answer = heard.answer;
     let next = heard.timer;
@@ -144,7 +144,7 @@ fn plain_eof(s: State, list: &mut [u64], size: u64) -> Received {
 fn timed_eof(s: State, list: &mut [u64], size: u64) -> Received {
     let rec = s.rec;
     let timer = state::timer_of(s);
-    let done = deferred_events::eof::deferred_eof_core(timer, rec, list, size);
+    let done = deferred::eof::deferred_eof_core(timer, rec, list, size);
     let heard = done.heard;
     let answer = heard.answer;
     let next = heard.timer;
