@@ -3,7 +3,7 @@
 -- size is known and something is missing.
 use mathlib.Core.Path.{_≡_, refl, sym, ap, _∙_}
 use mathlib.Core.Bool.{Bool, true, false, cond, true≢false}
-use mathlib.Core.List.{List, [], _∷_, _++_}
+use mathlib.Core.List.{List, [], _∷_}
 use lib.Dec.{eqb}
 use Rattle.reception.specs.History.{Event, State, isAccepted, step, run}
 use Rattle.reception.proofs.Records.{refused-same}
@@ -23,11 +23,6 @@ run-alone [] k = refl
 run-alone (Comes e ∷ is) k = run-alone is (turn k (Comes e))
 run-alone (Tick ∷ is) k = run-alone is (turn k Tick)
 run-alone (Reset ∷ is) k = run-alone is (turn k Reset)
-
--- inputs and then others
-pub turns-then : (is js : List Input) (k : Watch) → turns k (is ++ js) ≡ turns (turns k is) js
-turns-then [] js k = refl
-turns-then (i ∷ is) js k = turns-then is js (turn k i)
 
 -- a refused event changes nothing of timer, record and list
 pub refused-nothing : (k : Watch) (e : Event) → isAccepted (k .state) e ≡ false → turn k (Comes e) ≡ k
