@@ -441,7 +441,7 @@ REACHED = {
     'codec': {name: scripts.REACH[name] - scripts.LINKED_KINDS[name] - scripts.CRC_KINDS[name] for name in ('write', 'read')},
     'link': scripts.LINKED_KINDS,
     'trailer': {**scripts.CRC_KINDS, 'read': scripts.CRC_KINDS['read'] | {21}},
-    'reception': {**{name: scripts.REACH[name] for name in ('data', 'metadata', 'eof')}, 'nak': scripts.UNEQUAL},
+    'reception': {**{name: scripts.REACH[name] - scripts.STARTED[name] for name in ('data', 'metadata', 'eof')}, 'nak': scripts.UNEQUAL},
     'held': {name: scripts.REACH[name] for name in ('held', 'missing', 'map')},
     'sequence': {'nak': scripts.REACH['nak'] - scripts.UNEQUAL - scripts.LINKED_KINDS['nak'] - scripts.CRC_KINDS['nak'] - {8, 10, 12}},
     'console': {**{name: {10} for name in ('add', 'coalesce', 'within', 'octets')}, 'insert': {8, 10}, 'remove': {8, 10},
