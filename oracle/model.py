@@ -1,11 +1,12 @@
 #!/usr/bin/env python3
-"""A model of the console, written from document 01, document 02's C-11, C-12, C-14, C-16, C-19, C-20 and C-24 and the console's language
-alone.
+"""A model of the console, written from document 01, document 02's C-11, C-12, C-14, C-16, C-19, C-20, C-22 and C-24 and the console's
+language alone.
 
     model.py [SCRIPT]      answers the script (or standard input) as the program must
     model.py --self-test   holds the interval algebra and histories of events against plain sets of offsets, a PDU's requests
                            against words of letters, the two editions against each other, and the CRC of a trailer against its
-                           published check value, against division of whole numbers, and against every single bit turned over
+                           published check value, against division of whole numbers, and against every single bit turned over;
+                           of the deferred NAK, the ticks since it was started last
 
 Numbers are Python's, lists are lists of pairs; nothing here follows the Rust or the port.
 """
@@ -232,7 +233,9 @@ def choice(word, no, yes):
     return word == yes
 
 
-class Console:
+class Reception:
+    """A record with its list, the calls on them, and the link that its PDUs are for."""
+
     def __init__(self):
         self.begin(False, 4096)
         self.older = self.crc = False  # the link's edition, and whether it has the trailer; no `new` changes them
@@ -401,9 +404,12 @@ class Console:
         lacking = any(shares(s, e, a, b) for s, e in pairs)
         return 'yes' if not self.missing and b <= self.progress and not lacking else 'no'
 
-    def missing_octets(self):
+    def lacking(self):
         """How many offsets the list has. A tail that no end of file told of is in no list."""
-        return f'missing {sum(e - s for s, e in self.record())}'
+        return sum(e - s for s, e in self.record())
+
+    def missing_octets(self):
+        return f'missing {self.lacking()}'
 
     def picture(self, cells):
         """A picture of the file up to the size, or to progress where that is not known: what each cell of it has, kept or missing."""
@@ -443,13 +449,62 @@ class Console:
             sent.append(packet(identity, self.older, large, self.crc, start, end, taken))
         return [f'pdu {pdu.hex()}' for pdu in sent] + [f'sent {len(sent)} {sum(map(len, sent))} {cursor}']
 
-    # The console's words.
+    # The record as the console shows it.
 
     def show(self):
         mark = f'{"narrow" if self.narrow else "wide"} {self.length} {self.count} {self.progress}'
         mark += ' missing' if self.missing else ' known'
         mark += ' open' if self.size is None else f' {self.size}'
         return ' '.join([mark, *map(str, self.memory[:2 * min(self.count, MEMORY // 2)])])
+
+
+class Timer:
+    """The deferred NAK procedure: told of events, resets and ticks, it reads no clock."""
+
+    def __init__(self, d, limit):
+        if not 1 <= d <= 65535 or not 1 <= limit <= 255:
+            raise Refused(25)
+        self.d, self.limit = d, limit
+        self.state, self.left, self.counter = 'idle', 0, 0
+
+    def judge(self, record, restart):
+        """Active exactly if the size is known and something is missing, metadata included; it starts where it was not active, or anew."""
+        if record.size is None or not record.missing and record.count == 0:
+            self.state, self.left, self.counter = 'idle', 0, 0
+        elif restart or self.state != 'active':
+            self.state, self.left, self.counter = 'active', self.d, 0
+
+    def event(self, record, restart):
+        """After an accepted event; deaf, it hears none."""
+        if self.state != 'deaf':
+            self.judge(record, restart)
+
+    def tick(self, most):
+        """Ticks until the first that is not quiet, at most so many. That is the one at which nothing is left of the countdown."""
+        if self.state != 'active' or self.left > most:
+            self.left = max(0, self.left - most)
+            return f'quiet {most}'
+        made = self.left
+        if self.counter == self.limit:
+            self.state, self.left = 'deaf', 0
+            return f'limit {made}'
+        self.counter, self.left = self.counter + 1, self.d
+        return f'ask {made}'
+
+    def show(self):
+        return f'timer {self.state} {self.left} {self.counter}'
+
+
+# The events, which a timer is told of: how many numbers each has.
+EVENTS = {'data': 2, 'eof': 1, 'metadata': 0}
+
+
+class Console(Reception):
+    """One reception with its timer, if it has one; and the words of a line."""
+
+    def begin(self, narrow, ranges):
+        super().begin(narrow, ranges)
+        self.timer = None
 
     def command(self, words):
         """The answer to a line's words, a line or a list of lines."""
@@ -493,15 +548,15 @@ class Console:
         if name == 'slots':
             need(1)
             return ' '.join(['slots', *map(str, self.memory[:number(rest[0], MEMORY)])])
-        if name in ('add', 'insert', 'remove', 'within', 'data', 'held'):
+        if name in ('add', 'insert', 'remove', 'within', 'held'):
             need(2)
             return getattr(self, name)(number(rest[0]), number(rest[1]))
-        if name == 'eof':
-            need(1)
-            return self.eof(number(rest[0]))
-        if name in ('coalesce', 'metadata'):
+        if name in EVENTS:
+            need(EVENTS[name])
+            return self.event(name, [number(word) for word in rest])
+        if name == 'coalesce':
             need(0)
-            return getattr(self, name)()
+            return self.coalesce()
         if name == 'missing':
             need(0)
             return self.missing_octets()
@@ -533,7 +588,37 @@ class Console:
             identity, large = [number(word) for word in rest[:5]], choice(rest[5], 'normal', 'large')
             largest, cursor, budget = [number(word) for word in rest[6:9]]
             return self.nak(identity, large, largest, cursor, budget, number(rest[9], BUFFER))
+        if name == 'defer':
+            need(2)
+            self.timer = Timer(number(rest[0]), number(rest[1]))
+            return 'ok'
+        if name in ('tick', 'reset', 'timer'):
+            return self.timed(name, rest)
         raise Malformed
+
+    def event(self, name, numbers):
+        """An event, which goes to the timer too: that starts anew where fewer octets are missing than before, or at the metadata."""
+        if self.timer is None:
+            return getattr(self, name)(*numbers)
+        before = self.lacking()
+        answer = getattr(self, name)(*numbers)
+        self.timer.event(self, name == 'metadata' or self.lacking() < before)
+        return answer
+
+    def timed(self, name, rest):
+        """What these words ask of the timer."""
+        if self.timer is None or len(rest) != (name == 'tick'):
+            raise Malformed
+        if name == 'tick':
+            most = number(rest[0], 1000000)
+            if most == 0:
+                raise Malformed
+            return self.timer.tick(most)
+        if name == 'timer':
+            return self.timer.show()
+        self.record()
+        self.timer.judge(self, True)
+        return 'ok'
 
     def line(self, at, text):
         """The answers to line `at`, a list of lines; None if it is passed over."""
@@ -743,6 +828,52 @@ def history(rng):
     return told.done
 
 
+def timer_history(rng):
+    """C-22 said of ticks: of an active timer all follows from the ticks since it was started last. It asks at d, 2d, … up to limit × d
+    and reports at (limit + 1) × d; from then on it is deaf. Events are those of sets, as above; some are refused."""
+    console, d, limit = Console(), rng.randint(1, 5), rng.randint(1, 3)
+    capacity = rng.choice((1, 2, 20))
+    for line in (f'new wide {capacity}', f'defer {d} {limit}'):
+        assert console.line(1, line) == ['ok']
+    members, progress, size, missing = record = set(), 0, None, True
+    since, done = None, 0
+    for done in range(80):
+        kind, (a, b) = rng.random(), sorted(rng.sample(range(14), 2))
+        wanting = lambda: record[2] is not None and (record[3] or bool(record[0]))
+        if kind < 0.45:
+            most = rng.choice((1, 1, 2, d, d + 1, 9 * d))
+            left = None if since is None or since >= d * (limit + 1) else d - since % d
+            if left is None or left > most:
+                said, since = f'quiet {most}', since if left is None else since + most
+            else:
+                since += left
+                said = f'{"limit" if since == d * (limit + 1) else "ask"} {left}'
+            assert console.line(1, f'tick {most}') == [said], (record, since, most)
+        elif kind < 0.53:
+            assert console.line(1, 'reset') == ['ok']
+            since = 0 if wanting() else None
+        else:
+            members, progress, size, missing = record
+            event = rng.choice(('data', 'data', 'data', 'eof', 'eof', 'metadata'))
+            if event == 'metadata':
+                said, left = 'known' if missing else 'refused 19', (members, progress, size, False)
+            else:
+                act = data_of_sets if event == 'data' else end_of_sets
+                said, pairs, *rest = act(members, progress, size, missing, capacity, *((a, b) if event == 'data' else (13,)))
+                left = offsets(pairs), *rest, missing
+            words = {'data': f'data {a} {b - a}', 'eof': 'eof 13', 'metadata': 'metadata'}[event]
+            assert console.line(1, words) == [said], (record, words)
+            if not said.startswith('refused'):
+                lowered, record = len(left[0]) < len(members), left
+                if since is None or since < d * (limit + 1):
+                    anew = since is None or lowered or event == 'metadata'
+                    since = None if not wanting() else 0 if anew else since
+        deaf = since is not None and since >= d * (limit + 1)
+        state = 'idle 0 0' if since is None else f'deaf 0 {limit}' if deaf else f'active {d - since % d} {since // d}'
+        assert console.line(1, 'timer') == [f'timer {state}'], (record, since, d, limit)
+    return done + 1
+
+
 def refused_of_letters(word):
     """C-12 said of a word, a letter for each request (good, metadata, another empty one, reversed): the longest beginning that
     has m at most once, and g for the rest, is fine, and the letter behind it is refused."""
@@ -912,6 +1043,9 @@ def self_test():
     rng = random.Random('histories')
     done = sum(history(rng) for _ in range(400))
     print(f'self-test: 400 histories agree with the sets of octets kept, in {done} answers')
+    rng = random.Random('timers')
+    done = sum(timer_history(rng) for _ in range(500))
+    print(f'self-test: 500 timers agree with the ticks since their last start, in {done} events, resets and ticks')
     letters, done = {'g': (3, 9), 'm': (0, 0), 'e': (5, 5), 'r': (9, 4)}, 0
     for n, (older, large), flagged in itertools.product(range(7), ((False, False), (False, True), (True, False)), (False, True)):
         if flagged and n > 5:

@@ -189,6 +189,36 @@ TRAILER_EXAMPLES = [
     words('read', '2a0019' + SEALED[6:-4]), words('read', SEALED[:-4] + '6502'),
 ]
 
+ONE_HOLE = ['new wide 8', 'metadata', 'data 0 10', 'data 20 10']
+DEFERRED_EXAMPLES = [
+    '# Document 02, C-22: d = 3 and limit = 2, so asks at ticks 3 and 6 and the report at tick 9; then deaf to all but a reset.',
+    *ONE_HOLE, 'defer 3 2', 'timer', 'tick 5', 'eof 30', 'timer', 'tick 2', 'timer', 'tick 1', 'timer', 'tick 9', 'timer', 'tick 9', 'timer', 'tick 9',
+    'data 10 1', 'eof 30',
+    'timer', 'missing', 'reset', 'timer', 'tick 3', 'tick 3', 'tick 2', 'timer', 'tick 1', 'data 11 9', 'timer', 'reset', 'timer',
+    '# What lowers the missing octets starts it again, a split too, and so does the metadata; data that was kept before and refused events do not.',
+    *ONE_HOLE, 'defer 3 2', 'eof 30', 'tick 3', 'tick 1', 'data 0 10', 'timer', 'eof 30', 'timer', 'data 25 9', 'metadata', 'eof 31', 'timer', 'data 14 1',
+    'timer', 'tick 3', 'tick 2',
+    'data 10 4', 'timer', 'tick 3', 'data 15 5', 'timer', 'tick 3', 'new wide 8', 'defer 3 2', 'data 5 5', 'timer', 'eof 12', 'timer', 'tick 4', 'tick 1',
+    'data 0 12', 'timer', 'metadata',
+    'timer', 'tick 3', 'tick 1', 'data 0 12', 'timer',
+    '# The metadata alone; no octet at all; made after the end of file; another timer, and one that is refused.',
+    'new wide 8', 'defer 2 1', 'eof 0', 'timer', 'tick 2', 'metadata', 'timer', 'tick 2', 'new wide 8', 'metadata', 'defer 2 1', 'eof 0', 'timer', *ONE_HOLE,
+    'eof 30', 'defer 2 1', 'timer',
+    'tick 9', 'eof 31', 'timer', 'eof 30', 'timer', 'tick 1', 'defer 0 1', 'timer', 'defer 7 9', 'timer', 'data 0 1', 'timer', 'defer 5 5', 'reset', 'timer',
+    '# Limits of d and limit; the report at tick d x (limit + 1) for the largest of both.',
+    *(line for d, limit in ((0, 1), (1, 0), (65536, 1), (1, 256), (1, 1), (65535, 1), (1, 255), (65535, 255), (2, 254)) for line in (
+        *ONE_HOLE, words('defer', d, limit), 'eof 30', *(line for ask in range(min(limit, 4)) for line in (words('tick', max(1, d - 1)), 'timer', 'tick 1',
+                                                                                                           'timer')))),
+    *ONE_HOLE, 'defer 1 255', 'eof 30', *['tick 2'] * 257, 'timer', *ONE_HOLE, 'defer 65535 1', 'eof 30', 'tick 65534', 'tick 1000000', 'tick 65534',
+    'tick 1', 'timer',
+    '# A reset reads record and list, in every state.',
+    *(line for begin in ([], ['eof 30'], ['eof 30', 'tick 2', 'tick 1'], ['eof 30', *['tick 2'] * 3]) for line in (
+        *ONE_HOLE, 'defer 2 2', *begin, *scripts.told('data 0 0'), 'lend 3', *scripts.told('reset'), 'lend 16', 'load 30 known 1 31', *scripts.told('reset'),
+        'load 30 known 2 30',
+        *scripts.told('reset'), 'load 15 known 1 15', *scripts.told('reset'), 'load 30 known 1 open', *scripts.told('reset'), 'load 30 known 1 30',
+        *scripts.told('reset'))),
+]
+
 
 def store(rng):
     """Store calls that reach every answer the Rust can give."""
@@ -412,6 +442,16 @@ def sequence(rng):
             return out
 
 
+def deferred(rng):
+    """The deferred NAK: events, ticks and resets."""
+    out = [*DEFERRED_EXAMPLES, '# Each state, each event and a reset on records of every kind; ticks around the expiries; timers made late; words; histories.']
+    for generator, blocks in ((scripts.timer_states, 200), (scripts.timer_ticks, 20), (scripts.timer_resets, 60), (scripts.timer_late, 60),
+                              (scripts.timer_words, 400),
+                              (scripts.timer_history, 12)):
+        out += short(generator, blocks, 400)
+    return [*out, 'new wide 4']
+
+
 def console(rng):
     """Lines that are no command, and store calls that the port alone refuses."""
     nonsense = scripts.blocks(scripts.nonsense, 'sample')
@@ -441,11 +481,12 @@ REACHED = {
     'codec': {name: scripts.REACH[name] - scripts.LINKED_KINDS[name] - scripts.CRC_KINDS[name] for name in ('write', 'read')},
     'link': scripts.LINKED_KINDS,
     'trailer': {**scripts.CRC_KINDS, 'read': scripts.CRC_KINDS['read'] | {21}},
-    'reception': {**{name: scripts.REACH[name] for name in ('data', 'metadata', 'eof')}, 'nak': scripts.UNEQUAL},
+    'reception': {**{name: scripts.REACH[name] - scripts.STARTED[name] for name in ('data', 'metadata', 'eof')}, 'nak': scripts.UNEQUAL},
     'held': {name: scripts.REACH[name] for name in ('held', 'missing', 'map')},
     'sequence': {'nak': scripts.REACH['nak'] - scripts.UNEQUAL - scripts.LINKED_KINDS['nak'] - scripts.CRC_KINDS['nak'] - {8, 10, 12}},
     'console': {**{name: {10} for name in ('add', 'coalesce', 'within', 'octets')}, 'insert': {8, 10}, 'remove': {8, 10},
                 'nak': {8, 10, 12}, 'data': {8, 10, 12}, 'metadata': {8, 10, 12, 19}, 'eof': {8, 10, 12}},
+    'deferred': {**scripts.STARTED, **scripts.TIMED},
 }
 
 
@@ -486,7 +527,7 @@ def make(rust, run):
     """Writes the sample; says of each file whether it is as it was. False if something is amiss."""
     amiss, script = [], []
     # The console as it starts comes first; its last line goes without a newline.
-    for maker in (console, store, codec, link, trailer, reception, held, sequence):
+    for maker in (console, store, codec, link, trailer, reception, held, sequence, deferred):
         name = maker.__name__
         lines = maker(random.Random(f'sample {name}'))
         if maker is store:

@@ -1479,6 +1479,144 @@ def link_history(rng):
         yield [*block, link('newer')]
 
 
+# The deferred NAK (C-22).
+
+# (pairs, progress, mark, size) of records of every kind that a timer can meet: the size open and known, with nothing missing, holes, and the metadata
+# missing with and without octets.
+TIMED_RECORDS = [([(10, 20)], 40, 'known', 'open'), ([], 40, 'known', 'open'), ([(0, 40)], 40, 'missing', 'open'), ([], 0, 'missing', 'open'), ([], 40, 'known', 40),
+                 ([(10, 20)], 40, 'known', 40), ([(10, 11)], 40, 'known', 40), ([(10, 20), (30, 40)], 40, 'known', 40), ([(0, 40)], 40, 'missing', 40),
+                 ([], 0, 'missing', 0), ([], 0, 'known', 0)]
+# Events that are accepted and refused, that lower what is missing and that don't.
+TIMED_EVENTS = ['data 10 10', 'data 10 1', 'data 14 1', 'data 0 10', 'data 0 40', 'data 39 1', 'data 41 1', 'data 60 5', 'data 0 0', 'eof 40', 'eof 50',
+                'eof 0', 'eof 39',
+                'metadata']
+DELAYS = [(1, 1), (2, 1), (3, 2), (1, 255), (5, 3), (65535, 1), (65535, 255)]
+
+
+def told(event):
+    """An event with the timer before and behind it."""
+    return ['timer', event, 'timer']
+
+
+def to_state(d, limit, state, *begin):
+    """Lines that bring a timer on a record with a hole and a known size to that state: idle, fresh, started, one ask made, all made, deaf. Then the
+    record can be set anew."""
+    lines = ['new wide 4', *begin, words('defer', d, limit)]
+    if state == 'idle':
+        return lines
+    lines += ['metadata', 'eof 40']
+    asks = {'fresh': 0, 'started': 0, 'asked': 1, 'all asked': limit, 'deaf': limit + 1}[state]
+    lines += [words('tick', d)] * asks
+    return lines + ([words('tick', d - 1)] if d > 1 and state not in ('fresh', 'deaf') else [])
+
+
+TIMER_STATES = ('idle', 'fresh', 'started', 'asked', 'all asked', 'deaf')
+
+
+def timer_states(rng):
+    """A timer in each state (idle, active: fresh, started, with one ask and with all made, deaf), set on records of every kind, and each event on them,
+    accepted and refused, and a reset; then ticks: idle, active, deaf, ask, limit, quiet."""
+    for (d, limit), state, record, event in shuffled(rng, [pair for pair in DELAYS if pair[1] < 9], TIMER_STATES, TIMED_RECORDS, [*TIMED_EVENTS, 'reset']):
+        yield [*to_state(d, limit, state), *set_list(*record), *told(event), words('tick', d - 1 or 1), words('tick', rng.choice((1, d))), 'timer', 'show']
+
+
+def timer_ticks(rng):
+    """Ticks around each expiry up to d × (limit + 1) and behind it, one by one, d at a time, one less and one more, a million; d of 1 to 65,535, limits of
+    1 to 255: ask, limit, quiet."""
+    steps = [lambda d: 1, lambda d: d, lambda d: d - 1 or 1, lambda d: d + 1, lambda d: 1000000, lambda d: min(1000000, 2 * d)]
+    for (d, limit), size in shuffled(rng, [*DELAYS, (2, 2), (3, 1), (4, 4), (7, 2), (1000, 5), (256, 2), (65534, 2), (2, 255), (1, 254), (10, 16)], range(8)):
+        block, made = [*to_state(d, limit, 'fresh'), 'timer'], 0
+        for _ in range(min(700, (limit + 2) * (2 if size in (0, 2) else 1) + 6)):
+            step = steps[size](d) if size < 6 else rng.choice(steps)(d)
+            block.append(words('tick', step))
+            if rng.random() < 0.2:
+                block.append('timer')
+        yield [*block, 'timer']
+
+
+def timer_resets(rng):
+    """A reset in each state, on sound records of every kind and on such as fail 10, 8 or 12: a refused one changes nothing, a later one judges the record as it
+    lies: ok, 8, 10, 12."""
+    bad = [([(10, 20)], 40, 'known', 39), ([(10, 20)], 40, 'missing', 40), ([(10, 20), (5, 7)], 40, 'known', 40), ([(10, 20), (20, 30)], 40, 'known', 40),
+           ([(10, 41)], 40, 'known', 40), ([(30, 50), (10, 20)], 40, 'known', 40), ([(10, 50)], 40, 'known', 39), ([(0, 39)], 40, 'missing', 40)]
+    for (d, limit), state, record in shuffled(rng, [(1, 1), (3, 2), (65535, 2)], TIMER_STATES, [*bad, *TIMED_RECORDS, 'odd', 'above']):
+        setting = {'odd': ['lend 7'], 'above': ['load 40 known 5 40']}.get(record) if isinstance(record, str) else set_list(*record)
+        yield [*to_state(d, limit, state), *setting, *told('reset'), 'tick 1', *told('data 0 1'), 'lend 8', *set_list([(10, 20)], 40, 'known', 40), *told('reset'),
+               words('tick', d), 'timer']
+
+
+def timer_late(rng):
+    """Timers made before the end of file, behind it, when all came and while another is deaf; a second one in place of the first, and one that is refused, which
+    leaves it; then the same end of file, data again, a reset, or nothing, and ticks: idle until the next accepted event or reset."""
+    for d, record, second, wake in shuffled(rng, (1, 3, 65535), TIMED_RECORDS, (None, (2, 9), (0, 1), (1, 0), (65536, 1), (1, 256)),
+                                            ('eof 40', 'eof 41', 'data 0 1', 'data 10 1', 'reset', 'metadata', 'timer', 'data 0 0')):
+        block = ['new narrow 4', *set_list(*record), words('defer', d, 2), 'timer', words('tick', d)]
+        if second:
+            block += ['reset', words('tick', d), 'timer', words('defer', *second), 'timer']
+        yield [*block, *told(wake), words('tick', d), words('tick', d), 'timer']
+
+
+def timer_history(rng):
+    """Long histories: a file comes in pieces with losses, the metadata first, late or never, the end of file first, between and again; ticks, asks answered in
+    part, in whole or not at all, limits, resets; capacities of 1 to 40, refused events; now and then a damaged record, another timer, a fresh reception."""
+    while True:
+        d, limit = rng.choice(((1, 1), (1, 3), (2, 2), (3, 1), (5, 4), (10, 2), (100, 3), (65535, 255)))
+        pieces = rng.choice((4, 8, 20))
+        block = [words('new', rng.choice(WIDTHS), rng.choice((1, 2, 8, 40)))]
+        if rng.random() < 0.9:
+            block.append(words('defer', d, limit))
+        if rng.random() < 0.7:
+            block.append('metadata')
+        for _ in range(60):
+            kind = rng.random()
+            if kind < 0.35:
+                block += [words('tick', rng.choice((1, 1, d, d, d - 1 or 1, d + 1, 2 * d))), *(['timer'] if rng.random() < 0.4 else [])]
+            elif kind < 0.7:
+                at = rng.randrange(pieces)
+                block += told(words('data', 10 * at + rng.choice((0, 0, 0, 3)), rng.choice((10, 10, 10, 5, 20))))
+            elif kind < 0.78:
+                block += told(words('eof', rng.choice((10 * pieces, 10 * pieces, 10 * pieces, 10 * pieces + 10, 5))))
+            elif kind < 0.82:
+                block += told('metadata')
+            elif kind < 0.88:
+                block += told('reset')
+            elif kind < 0.9:
+                block += [words('defer', *rng.choice(((d, limit), (d + 1, limit), (0, 1), (1, 256)))), 'timer']
+            elif kind < 0.93:
+                # All that is missing comes.
+                block += [*told('metadata'), *told(words('data', 0, 10 * pieces))]
+            elif kind < 0.95:
+                block += [rng.choice(('lend 3', 'load 7 known 1 9', 'load 50 known 1 50', 'poke 0 9 4')), *told('reset'), 'tick 1', *told('data 0 1')]
+            elif kind < 0.97:
+                block += ['show', 'missing']
+            else:
+                block += set_list(*rng.choice(TIMED_RECORDS))
+        yield [*block, 'timer', 'show', 'new wide 4']
+
+
+NO_TIMERS = ['defer', 'defer 3', 'defer 3 2 1', 'defer x 2', 'defer 3 x', 'defer -1 2', 'Defer 3 2', 'defers 3 2', 'defer 18446744073709551616 2',
+             'defer 3 18446744073709551616',
+             'tick', 'tick 0', 'tick 1000001', 'tick x', 'tick -1', 'tick 1 1', 'tick 18446744073709551615', 'Tick 1', 'ticks 1', 'tick 00000000000000000000',
+             'reset 1',
+             'Reset', 'resets', 'timer 1', 'Timer', 'timers', 'tick 000000000000000000001', 'new wide 4097']
+
+
+def timer_words(rng):
+    """Lines that are no command of a timer: errors that change nothing, with and without a timer; `new`, which takes it away; other commands, which leave it;
+    d and limits at and past their ends: ok, 25; more spaces; ticks of a million."""
+    begin = ['new wide 4', 'defer 3 2', 'metadata', 'eof 40', 'tick 4', 'tick 1']
+    for line in (*NO_TIMERS, 'new wide 4', 'new pairs narrow 4', '  defer   7   9 ', '  tick   1 ', '  reset ', '  timer  ',
+                 'tick 1000000',
+                 'tick 00000000000000000001', 'load 3 known 0 3', 'lend 8', 'poke 0 1 2', 'slots 2', 'add 50 60', 'insert 50 60', 'remove 0 40', 'coalesce',
+                 'link newer plain',
+                 'read', 'held 0 1', 'missing', 'map 3', 'nak 1 1 1 7 2 normal 64 0 1 64', '# reset', ''):
+        yield [*begin, 'timer', line, 'timer', 'tick 1', 'timer', 'reset', 'timer']
+        yield ['new wide 4', line, 'timer', 'tick 1', 'reset']
+    for d, limit in itertools.product((0, 1, 2, 65534, 65535, 65536, 65537, 2**32 + 1, TOP), (0, 1, 2, 254, 255, 256, 257, 2**32 + 1, TOP)):
+        yield [*begin, words('defer', d, limit), 'timer', 'eof 40', 'timer', words('tick', min(1000000, max(1, d))), 'timer']
+        yield ['new wide 4', words('defer', d, limit), 'timer', 'eof 9', 'timer']
+
+
 def nonsense(rng):
     """Lines that are no command: unknown words, too few and too many words, numbers of 21 digits and
     above 2^64 - 1, signs, tabs, capitals, odd and upper-case octets, values past each limit, lines of
@@ -1562,7 +1700,8 @@ PDUS = [pdus_metadata, pdus_metadata_checks, pdus_lengths, pdus_limits, pdus_wri
 SEQUENCES = [sequences_runs, sequences_any]
 LINKS = [link_octets, link_writes, link_reads, link_sequences, link_kept, link_words, link_history]
 CRCS = [crc_trailers, crc_bits, crc_checks, crc_flags, crc_writes, crc_sequences]
-REST = [*EVENTS, *QUERIES, *PDUS, *SEQUENCES, *LINKS, *CRCS, nonsense]
+TIMERS = [timer_states, timer_ticks, timer_resets, timer_late, timer_words, timer_history]
+REST = [*EVENTS, *QUERIES, *PDUS, *SEQUENCES, *LINKS, *CRCS, *TIMERS, nonsense]
 
 # What a removal did (document 02, C-16), and by how many ranges the list grew.
 GREW = {'whole': -1, 'left': 0, 'right': 0, 'split': 1}
@@ -1689,6 +1828,25 @@ PLACES = {'refused 14 two below one', 'refused 14 below one', 'sent at one', 'se
 CRC_KINDS = {name: {f'{what} {flag} {edition}' for what in all_ for edition, flag in FORMS}
              for name, all_ in (('read', TRAILED), ('write', TOTALS), ('nak', PLACES))}
 
+# What an event or a reset does to a timer (C-22): from its state before to its state behind, `anew` where it is started again.
+STARTED = {
+    'data': {'kept idle to idle', 'kept idle to active', 'kept active to active', 'kept active to active anew', 'kept active to idle', 'kept deaf to deaf',
+             'noticed idle to idle', 'noticed idle to active', 'noticed active to active', 'noticed active to idle', 'noticed deaf to deaf',
+             *(f'refused {number} {state} to {state}' for number in (2, 22) for state in ('idle', 'active', 'deaf'))},
+    'eof': {'ended idle to idle', 'ended idle to active', 'ended active to active', 'ended active to idle', 'ended deaf to deaf',
+            *(f'refused 22 {state} to {state}' for state in ('idle', 'active', 'deaf'))},
+    'metadata': {'known idle to idle', 'known idle to active', 'known active to active anew', 'known active to idle', 'known deaf to deaf',
+                 *(f'refused 19 {state} to {state}' for state in ('idle', 'active', 'deaf'))},
+    'reset': {'ok idle to idle', 'ok idle to active', 'ok active to active anew', 'ok active to idle', 'ok deaf to active', 'ok deaf to idle',
+              *(f'refused {number} {state} to {state}' for number in (8, 10, 12) for state in ('idle', 'active', 'deaf'))},
+}
+TIMED = {
+    'defer': {'ok', 25, 'error'},
+    'tick': {'quiet', 'ask', 'limit', 'error'},
+    'timer': {'timer idle', 'timer active', 'timer deaf', 'error'},
+    'reset': STARTED['reset'] | {'ok', 8, 10, 12, 'error'},
+}
+
 # What a full run must meet at least once: by command, first words of answers and refusal numbers.
 REACH = {
     'add': {'added', 1, 2, 3, 4, 10},
@@ -1697,9 +1855,9 @@ REACH = {
     'coalesce': {'coalesced', 10},
     'within': {'yes', 'no', 10},
     'octets': {'octets', 6, 7, 10},
-    'data': SIZED | UNEQUAL | {'noticed', 'kept', 1, 2, 4, 8, 9, 10, 12, 22},
-    'metadata': UNEQUAL | {'known', 8, 10, 12, 19},
-    'eof': ENDED | UNEQUAL | {'ended', 1, 4, 8, 10, 12, 22},
+    'data': SIZED | UNEQUAL | STARTED['data'] | {'noticed', 'kept', 1, 2, 4, 8, 9, 10, 12, 22},
+    'metadata': UNEQUAL | STARTED['metadata'] | {'known', 8, 10, 12, 19},
+    'eof': ENDED | UNEQUAL | STARTED['eof'] | {'ended', 1, 4, 8, 10, 12, 22},
     'held': HELD | UNEQUAL | {'yes', 'no', 2, 3, 8, 10, 12},
     'missing': MISSING | UNEQUAL | {'missing', 8, 10, 12},
     'map': MAPPED | UNEQUAL | {'map', 'error', 8, 10, 12},
@@ -1707,6 +1865,7 @@ REACH = {
     'read': asked('nak', 'refused 2', 'refused 3') | LINKED_KINDS['read'] | CRC_KINDS['read'] | {'nak', 2, 3, 14, 15, 16, 17, 18, 21},
     'nak': UNEQUAL | LINKED_KINDS['nak'] | CRC_KINDS['nak'] | {'pdu', 'sent', 6, 7, 8, 10, 11, 12, 13, 14, 15, 20},
     'link': LINKED_KINDS['link'] | {'ok', 'error'},
+    **TIMED,
 }
 RUST_REACH = {
     'add': {'added', 1, 2, 3, 4},
@@ -1731,7 +1890,7 @@ def kind(answer):
         index, last = int(parts[2]), int(parts[3]) - GREW[parts[1]] - 1
         place = 'only' if last == 0 else 'first' if index == 0 else 'last' if index == last else 'middle'
         return f'removed {parts[1]} {place}'
-    if parts[0] == 'removed':
+    if parts[0] in ('removed', 'timer'):
         return ' '.join(parts[:2])
     return parts[0]
 
@@ -1969,13 +2128,40 @@ class Link:
             self.last = line, self.edition, self.trailer, said
 
 
+class Started:
+    """The timer while lines are gone through, as it was shown last, and the event or reset that was told to it since."""
+
+    def __init__(self):
+        self.d, self.before, self.since = 0, None, None
+
+    def met(self, parts, answer):
+        """(command, kind) of the event or reset between two answers to `timer`, as the tables above name it."""
+        if parts[0] == 'timer' and answer[0].startswith('timer '):
+            now = answer[0].split(' ')[1:]
+            if self.before and self.since:
+                name, said = self.since
+                fresh = now == ['active', str(self.d), '0']
+                # One that had just been started does not show whether it was started again.
+                if now[0] != 'active' or self.before[0] != 'active' or not fresh or now != self.before:
+                    anew = ' anew' if self.before[0] == now[0] == 'active' and now != self.before else ''
+                    yield name, f'{said} {self.before[0]} to {now[0]}{anew}'
+            self.before, self.since = now, None
+            return
+        if parts[0] == 'defer' and answer == ['ok']:
+            self.d = int(parts[1])
+        told = parts[0] in STARTED and self.before and not self.since and not answer[0].startswith('error ')
+        self.since = (parts[0], saying(answer[0])) if told else None
+        self.before = self.before if told else None
+
+
 def met(lines, expected):
     """(command, kind) of each answer to these lines; of a removal with the store's width, of an insert, an event or a sequence
     also how it met the record where the line before showed that, of a PDU how its metadata request stands; of a PDU and a sequence
     also what the link made of it."""
-    width, shown, link_now = 'wide', None, Link()
+    width, shown, link_now, started = 'wide', None, Link(), Started()
     for at, answer in expected:
         parts = lines[at - 1].split() or ['']
+        yield from started.met(parts, answer)
         yield from ((parts[0], how) for how in link_now.met(lines[at - 1], parts, answer))
         if parts[0] == 'new' and answer == ['ok']:
             width = parts[-2]
