@@ -25,6 +25,8 @@ struct pusmarke_nak {
     size_t from, to, next;
 };
 struct pusmarke_step { uint64_t found, start, end; size_t at; };
+struct pusmarke_deferred { uint64_t period, limit, activity, left, counter; };
+struct pusmarke_heard { struct pusmarke_answer answer; struct pusmarke_deferred timer; };
 
 struct pusmarke_answer pusmarke_add(uint64_t *, size_t, size_t, uint64_t, uint64_t, uint64_t);
 struct pusmarke_answer pusmarke_remove(uint64_t *, size_t, size_t, uint64_t, uint64_t, uint64_t);
@@ -42,6 +44,11 @@ struct pusmarke_answer pusmarke_nak_sequence(
     size_t, size_t, uint8_t *, size_t);
 struct pusmarke_answer pusmarke_write(
     struct pusmarke_identity, struct pusmarke_form, uint64_t, uint64_t, const uint64_t *, size_t, uint8_t *, size_t);
+struct pusmarke_heard pusmarke_deferred(uint64_t, uint64_t);
+struct pusmarke_heard pusmarke_tick(struct pusmarke_deferred);
+struct pusmarke_heard pusmarke_reset(struct pusmarke_deferred, struct pusmarke_reception, const uint64_t *, size_t);
+struct pusmarke_heard pusmarke_deferred_data(
+    struct pusmarke_reception *, uint64_t *, size_t, uint64_t, uint64_t, struct pusmarke_deferred);
 struct pusmarke_nak pusmarke_read(const uint8_t *, size_t, uint64_t);
 struct pusmarke_step pusmarke_next(const uint8_t *, size_t, size_t);
 
@@ -330,6 +337,34 @@ static void data_in_order(size_t n) { data_event(n, progress_of(n), 1000); }
 static void data_opens(size_t n) { data_event(n - 1, progress_of(n - 1) + 100, 1000); }
 static void data_fills(size_t n) { data_event(n, start_of(n / 2), end_of(n / 2) - start_of(n / 2)); }
 
+// An active timer of 10 ticks and 3 asks, beside a record of n ranges whose size is known.
+static struct pusmarke_deferred active(struct pusmarke_reception record)
+{
+    struct pusmarke_heard heard = pusmarke_reset(pusmarke_deferred(10, 3).timer, record, list, NUMBERS);
+    same(heard.answer.refusal == 0 && heard.timer.activity == 1, "timer");
+    return heard.timer;
+}
+
+static void tick(size_t n)
+{
+    struct pusmarke_reception record = { progress_of(n), n, narrow, 0, 1, progress_of(n) };
+    struct pusmarke_heard heard;
+    ascending(n);
+    struct pusmarke_deferred timer = active(record);
+    COUNT(0, heard = pusmarke_tick(timer));
+    same(heard.answer.first == 0 && heard.timer.left == 9, "tick");
+}
+
+static void timed_fills(size_t n)
+{
+    struct pusmarke_reception record = { progress_of(n), n, narrow, 0, 1, progress_of(n) };
+    struct pusmarke_heard heard;
+    ascending(n);
+    struct pusmarke_deferred timer = pusmarke_tick(active(record)).timer;
+    COUNT(0, heard = pusmarke_deferred_data(&record, list, NUMBERS, start_of(n / 2), end_of(n / 2) - start_of(n / 2), timer));
+    same(heard.answer.refusal == 0 && heard.answer.first == 1 && record.count == n - 1 && heard.timer.left == 10, "answer");
+}
+
 // The end of file, 100 octets past progress. The Rust leaves its progress and never joins: its list is coalesced before it is compared.
 static void eof_at(size_t n, uint64_t progress)
 {
@@ -498,6 +533,8 @@ static const struct {
     { "held, behind the last range", PORT, held_last },
     { "held, across the list", PORT, held_no },
     { "missing_octets", PORT, missing_octets },
+    { "a tick of the timer", PORT, tick },
+    { "data that fills a hole, with a timer", PORT, timed_fills },
     { "NAK sequence", ALL, sequence },
     { "read one PDU", PORT, read_pdu },
     { "read one PDU with a trailer", PORT, read_crc },
