@@ -41,7 +41,8 @@ refusalBack o =
     (cond (eqb (o .number) 20) refusal.BudgetTooLarge
     (cond (eqb (o .number) 21) refusal.BadTrailer
     (cond (eqb (o .number) 22) refusal.FileSizeError
-    refusal.BadTimer))))))))))))))))))))))
+    (cond (eqb (o .number) 23) refusal.BadPool
+    refusal.BadTimer)))))))))))))))))))))))
 
 pub refusal-back : (r : Refusal) → refusalBack (refusing r) ≡ r
 refusal-back refusal.StoreFull = refl
@@ -66,6 +67,7 @@ refusal-back refusal.AlreadyKnown = refl
 refusal-back refusal.BudgetTooLarge = refl
 refusal-back refusal.BadTrailer = refl
 refusal-back refusal.FileSizeError = refl
+refusal-back refusal.BadPool = refl
 refusal-back refusal.BadTimer = refl
 
 pub one-refusal : (r s : Refusal) → refusing r ≡ refusing s → r ≡ s
@@ -94,6 +96,7 @@ refuses refusal.AlreadyKnown = refl
 refuses refusal.BudgetTooLarge = refl
 refuses refusal.BadTrailer = refl
 refuses refusal.FileSizeError = refl
+refuses refusal.BadPool = refl
 refuses refusal.BadTimer = refl
 
 pub no-refusal : (r : Refusal) {vs : List ℕ} → refusing r ≡ accepted vs → ⊥

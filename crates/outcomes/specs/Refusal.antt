@@ -1,5 +1,5 @@
--- The number of each refusal, and what it also carries (document 01, "Numbers handed back on refusal"; 21, 22 and 25: document 02, C-11, C-14
--- and C-22).
+-- The number of each refusal, and what it also carries (document 01, "Numbers handed back on refusal"; 21, 22, 23 and 25: document 02, C-11,
+-- C-14, C-21 and C-22).
 use mathlib.Core.List.{[], _∷_}
 use Rattle.outcomes.specs.Outcome.{Outcome, refused}
 use Rattle.outcomes.specs.declared.Refusal.{Refusal}
@@ -28,4 +28,5 @@ refusing refusal.AlreadyKnown = refused 19 []
 refusing refusal.BudgetTooLarge = refused 20 []
 refusing refusal.BadTrailer = refused 21 []
 refusing refusal.FileSizeError = refused 22 []
+refusing refusal.BadPool = refused 23 []
 refusing refusal.BadTimer = refused 25 []

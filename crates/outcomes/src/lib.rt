@@ -32,6 +32,7 @@ pub enum Refusal {
     BudgetTooLarge,
     BadTrailer,
     FileSizeError,
+    BadPool,
     BadTimer,
 }
 
@@ -97,6 +98,7 @@ pub fn in_numbers(r: Refusal) -> Told
         Refusal::BudgetTooLarge => bare(20),
         Refusal::BadTrailer => bare(21),
         Refusal::FileSizeError => bare(22),
+        Refusal::BadPool => bare(23),
         Refusal::BadTimer => bare(25),
     }
 }

@@ -36,6 +36,7 @@ each refusal.AlreadyKnown = refl
 each refusal.BudgetTooLarge = refl
 each refusal.BadTrailer = refl
 each refusal.FileSizeError = refl
+each refusal.BadPool = refl
 each refusal.BadTimer = refl
 
 pub carries : (number : ℕ) {n : ℕ} → valuesOf number ≡ n → Carries number n

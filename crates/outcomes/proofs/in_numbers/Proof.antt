@@ -143,6 +143,12 @@ enum-told-20 c = search needs
 bare-requires-20 : tie.Need-bare-requires-20
 bare-requires-20 c κs = search needs
 
+enum-told-21 : tie.Need-enum-told-21
+enum-told-21 c = search needs
+
+bare-requires-21 : tie.Need-bare-requires-21
+bare-requires-21 c κs = search needs
+
 returns : tie.Need-returns
 returns c = rw (c .before .enum-told .given .1) (c .bare .ensures)
 
@@ -212,6 +218,9 @@ returns-22 c = rw (c .before .enum-told19 .given .1) (c .bare19 .ensures)
 returns-23 : tie.Need-returns-23
 returns-23 c = rw (c .before .enum-told20 .given .1) (c .bare20 .ensures)
 
+returns-24 : tie.Need-returns-24
+returns-24 c = rw (c .before .enum-told21 .given .1) (c .bare21 .ensures)
+
 pub in-numbers-spec : {M : Type 1} → statement M
 in-numbers-spec =
     tie.close
@@ -262,6 +271,8 @@ in-numbers-spec =
     bare-requires-19
     enum-told-20
     bare-requires-20
+    enum-told-21
+    bare-requires-21
     returns
     returns-2
     returns-3
@@ -284,4 +295,5 @@ in-numbers-spec =
     returns-20
     returns-21
     returns-22
-    returns-23)
+    returns-23
+    returns-24)
