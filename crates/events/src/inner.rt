@@ -68,7 +68,7 @@ fn wrong_size(rec: Reception) -> bool
 }
 
 // What is left of 10 where the store is good and progress within the width.
-fn wrong_rest(rec: Reception, list: &[u64]) -> bool
+pub fn wrong_rest(rec: Reception, list: &[u64]) -> bool
     requires { ⌜ 2 * (rec .count) ≤ length (now list) ⌝ }
     ensures { λ r. ⌜ r ≡ (isWrongWait (now (list .entry)) rec || isWrongSize rec) ⌝ }
 {

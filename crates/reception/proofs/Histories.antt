@@ -38,7 +38,7 @@ pub record Holds (s : State) (N : ℕ) (P : ℕ → Type 0) (n : ℕ) : Type 0 w
   pub none : s .rec .missing ≡ true → (x : ℕ) → P x → ⊥
   pub runs : length (rangesOf s) ≤ n
 
-holds-same : (s : State) (N : ℕ) (P Q : ℕ → Type 0) (n m : ℕ) → n ≤ m → ((x : ℕ) → P x ↔ Q x) → Holds s N P n → Holds s N Q m
+pub holds-same : (s : State) (N : ℕ) (P Q : ℕ → Type 0) (n m : ℕ) → n ≤ m → ((x : ℕ) → P x ↔ Q x) → Holds s N P n → Holds s N Q m
 holds-same s N P Q n m k f h =
     let r = h .runs in
     record {
@@ -211,7 +211,7 @@ mark-cleared s N P n h =
     }
 
 -- the set that an event adds to the kept offsets
-split-kept : (t : Bool) (e : Event) (rs : List Range) (x : ℕ) → Covers x (keptBy t e rs) ↔ (Covers x (keptBy t e []) ⊎ Covers x rs)
+pub split-kept : (t : Bool) (e : Event) (rs : List Range) (x : ℕ) → Covers x (keptBy t e rs) ↔ (Covers x (keptBy t e []) ⊎ Covers x rs)
 split-kept true (Data o z) rs x = (⊎-elim (λ k. inl (inl k)) (λ k. inr k), ⊎-elim (⊎-elim (λ k. inl k) absurd) (λ k. inr k))
 split-kept true Metadata rs x = (λ k. inr k, ⊎-elim absurd (λ k. k))
 split-kept true (Eof z) rs x = (λ k. inr k, ⊎-elim absurd (λ k. k))
@@ -220,7 +220,7 @@ split-kept false e rs x = (λ k. inr k, ⊎-elim absurd (λ k. k))
 -- one event, accepted or refused; `known` says that the metadata came before
 module _ (s : State) (N : ℕ) (P : ℕ → Type 0) (n : ℕ) (h : Holds s N P n) where
   -- the offsets kept afterwards, and the reception once the metadata is known
-  abbrev with-kept : Bool → Event → ℕ → Type 0
+  abbrev pub with-kept : Bool → Event → ℕ → Type 0
   with-kept t e x = Covers x (keptBy t e []) ⊎ P x
 
   abbrev now-known : State
@@ -234,7 +234,7 @@ module _ (s : State) (N : ℕ) (P : ℕ → Type 0) (n : ℕ) (h : Holds s N P n
   none-added : (r : State) (m l : ℕ) → m ≤ l → Holds r N P m → Holds r N (λ x. Covers x [] ⊎ P x) l
   none-added r m l u h = holds-same r N P (λ x. Covers x [] ⊎ P x) m l u (λ x. (λ k. inr k, ⊎-elim absurd (λ k. k))) h
 
-  step-holds : (e : Event) (known : Bool) → s .rec .missing ≡ not known
+  pub step-holds : (e : Event) (known : Bool) → s .rec .missing ≡ not known
       → Holds (step s e) N (with-kept (isAccepted s e && known) e) (cond (isAccepted s e) (suc n) n)
   unfolding next end
   step-holds e known g = go e (isAccepted s e) refl known g

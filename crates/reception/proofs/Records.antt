@@ -23,7 +23,7 @@ pub refused-gone : (s : State) (e : Event) (es : List Event) → isAccepted s e 
 refused-gone s e es f = ap (λ (t : State). run t es) (refused-same s e f)
 
 -- progress: one event, and a list of them
-step-progress : (s : State) (e : Event) → step s e .rec .progress ≡ endBy (isAccepted s e) e (s .rec .progress)
+pub step-progress : (s : State) (e : Event) → step s e .rec .progress ≡ endBy (isAccepted s e) e (s .rec .progress)
 step-progress s e = go e (isAccepted s e) refl
   where
     go : (e : Event) (t : Bool) → isAccepted s e ≡ t → step s e .rec .progress ≡ endBy (isAccepted s e) e (s .rec .progress)
@@ -34,7 +34,7 @@ step-progress s e = go e (isAccepted s e) refl
     go (Eof z) true f = let k = eof-taken (s .rec) (s .list) z f .above in rw f (omega arith)
     go (Eof z) false f = rw f
 
-larger-end : (t : Bool) (e : Event) (p l : ℕ) → max (endBy t e p) l ≡ max p (endBy t e l)
+pub larger-end : (t : Bool) (e : Event) (p l : ℕ) → max (endBy t e p) l ≡ max p (endBy t e l)
 larger-end true (Data o z) p l = omega arith
 larger-end true Metadata p l = refl
 larger-end true (Eof z) p l = omega arith
@@ -69,7 +69,7 @@ step-mark s e known g = go e (isAccepted s e) refl known g
     go (Eof z) false f true g = rw f g
     go (Eof z) false f false g = rw f g
 
-or-assoc : (a b c : Bool) → ((a || b) || c) ≡ (a || (b || c))
+pub or-assoc : (a b c : Bool) → ((a || b) || c) ≡ (a || (b || c))
 or-assoc true b c = refl
 or-assoc false b c = refl
 
@@ -84,7 +84,7 @@ pub mark-metadata : (w : Width) (xs : List ℕ) (es : List Event) → run (fresh
 mark-metadata w xs es = mark-from es (fresh w xs) false refl
 
 -- the width: one event, and a list of them
-step-width : (s : State) (e : Event) → step s e .rec .width ≡ s .rec .width
+pub step-width : (s : State) (e : Event) → step s e .rec .width ≡ s .rec .width
 step-width s e = go e (isAccepted s e) refl
   where
     go : (e : Event) (t : Bool) → isAccepted s e ≡ t → step s e .rec .width ≡ s .rec .width
@@ -108,11 +108,11 @@ abbrev pub sizeOf : Reception → List ℕ
 sizeOf rec = cond (rec .sized) (rec .size ∷ []) []
 
 -- sizes told later, or those from before
-abbrev later : List ℕ → List ℕ → List ℕ
+abbrev pub later : List ℕ → List ℕ → List ℕ
 later [] ys = ys
 later (z ∷ zs) ys = z ∷ zs
 
-step-size : (s : State) (e : Event) → sizeOf (step s e .rec) ≡ later (sizeBy (isAccepted s e) e []) (sizeOf (s .rec))
+pub step-size : (s : State) (e : Event) → sizeOf (step s e .rec) ≡ later (sizeBy (isAccepted s e) e []) (sizeOf (s .rec))
 step-size s e = go e (isAccepted s e) refl
   where
     go : (e : Event) (t : Bool) → isAccepted s e ≡ t → sizeOf (step s e .rec) ≡ later (sizeBy (isAccepted s e) e []) (sizeOf (s .rec))
@@ -123,7 +123,7 @@ step-size s e = go e (isAccepted s e) refl
     go (Eof z) true f = rw f
     go (Eof z) false f = rw f
 
-later-by : (t : Bool) (e : Event) (zs ys : List ℕ) → later zs (later (sizeBy t e []) ys) ≡ later (sizeBy t e zs) ys
+pub later-by : (t : Bool) (e : Event) (zs ys : List ℕ) → later zs (later (sizeBy t e []) ys) ≡ later (sizeBy t e zs) ys
 later-by true (Data o z) [] ys = refl
 later-by true (Data o z) (x ∷ zs) ys = refl
 later-by true Metadata [] ys = refl

@@ -29,7 +29,7 @@ fn move_up(list: &mut [u64], from: usize, to: usize, n: usize)
 }
 
 // The n numbers from place `from` on, moved to place `to`.
-fn shift(list: &mut [u64], from: usize, to: usize, n: usize)
+pub fn shift(list: &mut [u64], from: usize, to: usize, n: usize)
     requires { ⌜ (from + n ≤ length (now list)) × (to + n ≤ length (now list)) ⌝ }
     ensures { λ _. ⌜ now (list .exit) ≡ shifted (now (list .entry)) from to n ⌝ }
 {

@@ -1,0 +1,17 @@
+pub mod Sums
+pub mod Own
+pub mod Grows
+pub mod Ends
+pub mod Slots
+pub mod Replacing
+pub mod Stepped
+pub mod Rooms
+pub mod Histories
+pub mod Missing
+pub mod Told
+pub mod Room
+pub mod Alike
+pub mod Answered
+pub mod Alone
+pub mod FreshPools
+pub mod Unmoved

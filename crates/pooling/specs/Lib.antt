@@ -1,0 +1,4 @@
+pub mod Pool
+pub mod Share
+pub mod Events
+pub mod History
