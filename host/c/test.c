@@ -1307,6 +1307,270 @@ static void deferred(void) {
     HOLDS(sized_is(r, 300, 1, 0, 1, 1, 300));
 }
 
+/* Every call on this transfer of the pool is refused with this number, whatever else is wrong with it, and nothing lent changes. */
+static void no_pool(int line, struct pusmarke_pool p, const uint64_t *list, size_t length, size_t i, uint64_t number) {
+    static uint64_t copy[2 * PAIRS];
+    const struct pusmarke_pool kept = p;
+    struct pusmarke_identity bad = identity;
+    uint8_t buf[64], octets[64];
+
+    memcpy(copy, list, length * sizeof *list);
+    memset(buf, 0xaa, sizeof buf);
+    memcpy(octets, buf, sizeof buf);
+    bad.entity_length = 0;
+    is(line, pusmarke_pool_data(&p, copy, length, i, 0, 5), number, 0, 0, 0);
+    is(line, pusmarke_pool_data(&p, copy, length, i, 0, 0), number, 0, 0, 0);
+    is(line, pusmarke_pool_data(&p, copy, length, i, UINT64_MAX, UINT64_MAX), number, 0, 0, 0);
+    is(line, pusmarke_pool_metadata(&p, copy, length, i), number, 0, 0, 0);
+    is(line, pusmarke_pool_eof(&p, copy, length, i, 0), number, 0, 0, 0);
+    is(line, pusmarke_pool_eof(&p, copy, length, i, UINT64_MAX), number, 0, 0, 0);
+    is(line, pusmarke_pool_held(p, list, length, i, 0, 5), number, 0, 0, 0);
+    is(line, pusmarke_pool_held(p, list, length, i, 5, 5), number, 0, 0, 0);
+    is(line, pusmarke_pool_held(p, list, length, i, 5, 0), number, 0, 0, 0);
+    is(line, pusmarke_pool_missing_octets(p, list, length, i), number, 0, 0, 0);
+    is(line, pusmarke_pool_nak_sequence(p, list, length, i, identity, newer, 32, 0, 2, buf, 64), number, 0, 0, 0);
+    is(line, pusmarke_pool_nak_sequence(p, list, length, i, bad, older_large, 0, SIZE_MAX, SIZE_MAX, buf, 0), number, 0, 0, 0);
+    holds(line, memcmp(&p, &kept, sizeof p) == 0 && memcmp(copy, list, length * sizeof *list) == 0 && memcmp(buf, octets, sizeof buf) == 0);
+}
+
+#define NO_POOL(p, list, length, i, number) no_pool(__LINE__, (p), (list), (length), (i), (number))
+
+/* Two transfers whose metadata is known: the first holds 100-120 and 150-200 below 300, the second 40-50 below 60. */
+static const uint64_t shared[10] = {100, 120, 150, 200, 40, 50, 0, 0, 0, 0};
+
+static struct pusmarke_pool of_two(void) {
+    struct pusmarke_pool p = pusmarke_pool_add(pusmarke_pool_add(pusmarke_pool_fresh(), 0, 1, 3), 0, 1, 4);
+    const struct pusmarke_reception first = {300, 2, 0, 0, 0, 0}, second = {60, 1, 0, 0, 0, 0};
+
+    p.records[0] = first;
+    p.records[1] = second;
+    return p;
+}
+
+/* "bad settings or an unknown transfer are refusal 23, first": more than eight, a floor above its limit, floors above S in sum. "held above
+ * limit, or that sum above S, is 10. 10 looks at every transfer, 8 and 12 at the one named." */
+static void bad_pools(void) {
+    struct pusmarke_pool p = of_two(), q;
+    uint64_t list[10];
+    size_t i;
+
+    NO_POOL(pusmarke_pool_fresh(), shared, 10, 0, PUSMARKE_BAD_POOL);
+    NO_POOL(p, shared, 10, 2, PUSMARKE_BAD_POOL);
+    NO_POOL(p, shared, 10, 8, PUSMARKE_BAD_POOL);
+    NO_POOL(p, shared, 10, SIZE_MAX, PUSMARKE_BAD_POOL);
+    q = p;
+    q.used = 9;
+    NO_POOL(q, shared, 10, 0, PUSMARKE_BAD_POOL);
+    NO_POOL(q, shared, 10, 8, PUSMARKE_BAD_POOL);
+    q.used = SIZE_MAX;
+    NO_POOL(q, shared, 10, 0, PUSMARKE_BAD_POOL);
+    q = p;
+    q.floors[1] = 5;
+    NO_POOL(q, shared, 10, 0, PUSMARKE_BAD_POOL);
+    NO_POOL(q, shared, 10, 1, PUSMARKE_BAD_POOL);
+    q.limits[1] = 5; /* 1 + 5 of 5 */
+    NO_POOL(q, shared, 10, 0, PUSMARKE_BAD_POOL);
+    q.floors[1] = SIZE_MAX; /* the sum passes 2^64 */
+    q.limits[1] = SIZE_MAX;
+    NO_POOL(q, shared, 10, 0, PUSMARKE_BAD_POOL);
+    NO_POOL(q, shared, 9, 0, PUSMARKE_BAD_POOL);
+    NO_POOL(p, shared, 3, 0, PUSMARKE_BAD_POOL); /* odd too; S is 1, and the floors are 2 */
+    NO_POOL(p, long_list, 2 * PAIRS, 2, PUSMARKE_BAD_POOL);
+
+    for (i = 0; i < 2; i++) {
+        NO_POOL(p, shared, 9, i, PUSMARKE_BAD_STORE);
+        NO_POOL(p, long_list, 2 * PAIRS, i, PUSMARKE_BAD_STORE);
+        q = p;
+        q.records[1].count = 5; /* above its limit */
+        NO_POOL(q, shared, 10, i, PUSMARKE_BAD_STORE);
+        q = p;
+        q.limits[0] = 1;
+        NO_POOL(q, shared, 10, i, PUSMARKE_BAD_STORE);
+        q = p;
+        q.floors[1] = 4; /* 2 + 4 of 5 */
+        NO_POOL(q, shared, 10, i, PUSMARKE_BAD_STORE);
+        NO_POOL(p, shared, 4, i, PUSMARKE_BAD_STORE); /* 2 + 1 of 2 */
+        q = p;
+        q.records[1].count = SIZE_MAX;
+        q.limits[1] = SIZE_MAX;
+        NO_POOL(q, shared, 10, i, PUSMARKE_BAD_STORE);
+        /* a record that is 10 by itself */
+        q = p;
+        q.records[1].missing = 4;
+        NO_POOL(q, shared, 10, i, PUSMARKE_BAD_STORE);
+        q = p;
+        q.records[1].sized = 2;
+        q.records[1].size = 61;
+        NO_POOL(q, shared, 10, i, PUSMARKE_BAD_STORE);
+        q = p;
+        q.records[1].narrow = 1;
+        q.records[1].progress = 4294967296u;
+        NO_POOL(q, shared, 10, i, PUSMARKE_BAD_STORE);
+        /* and a third, in use and not */
+        q = pusmarke_pool_add(p, 1, 0, 0);
+        q.records[2].progress = 1;
+        NO_POOL(q, shared, 10, i, PUSMARKE_BAD_STORE);
+        q.used = 2;
+        HOLDS(pusmarke_pool_missing_octets(q, shared, 10, i).refusal == 0);
+    }
+
+    /* 10 of the other before 8 of the one named, and 8 before 12 */
+    memcpy(list, shared, sizeof list);
+    list[0] = 160;
+    q = p;
+    q.records[0].progress = 199;
+    NO_POOL(q, list, 10, 0, PUSMARKE_NOT_COALESCED);
+    NO_POOL(q, shared, 10, 0, PUSMARKE_SCOPE_BELOW_LIST);
+    ACCEPTED(pusmarke_pool_missing_octets(q, list, 10, 1), 10, 0, 0);
+    ACCEPTED(pusmarke_pool_held(q, list, 10, 1, 0, 40), 1, 0, 0);
+    q.records[1].missing = 1;
+    NO_POOL(q, list, 10, 0, PUSMARKE_BAD_STORE);
+}
+
+/* What each call refuses behind those, and that all of the pool but one record stays as it was. */
+static void pool_calls(void) {
+    struct pusmarke_pool p = of_two(), q, kept;
+    struct pusmarke_identity bad = identity;
+    uint64_t list[10], was[10];
+    uint8_t buf[64], octets[64];
+    const uint8_t both[32] = {0x28, 0, 0x19, 0, 1, 7, 2, 8, 0, 0, 0, 0, 0, 0, 0x01, 0x2c, 0, 0, 0, 100, 0, 0, 0, 120, 0, 0, 0, 150, 0, 0, 0,
+        200};
+    const uint8_t one[24] = {0x28, 0, 0x11, 0, 1, 7, 2, 8, 0, 0, 0, 0, 0, 0, 0, 60, 0, 0, 0, 40, 0, 0, 0, 50};
+
+    memcpy(list, shared, sizeof list);
+    kept = p;
+    REFUSED(pusmarke_pool_data(&p, list, 10, 1, 7, 0), PUSMARKE_EMPTY_SEGMENT);
+    REFUSED(pusmarke_pool_data(&p, list, 10, 1, UINT64_MAX, 1), PUSMARKE_RANGE_TOO_LONG);
+    REFUSED(pusmarke_pool_metadata(&p, list, 10, 0), PUSMARKE_ALREADY_KNOWN);
+    REFUSED(pusmarke_pool_eof(&p, list, 10, 0, 299), PUSMARKE_FILE_SIZE_ERROR);
+    REFUSED(pusmarke_pool_held(p, list, 10, 0, 5, 5), PUSMARKE_EMPTY_SEGMENT);
+    CARRIES(pusmarke_pool_held(p, list, 10, 1, 7, 5), PUSMARKE_START_LARGER_THAN_END, 7, 5);
+    HOLDS(memcmp(&p, &kept, sizeof p) == 0 && memcmp(list, shared, sizeof list) == 0);
+    /* a narrow one beside a wide one; the other numbers stay as handed over, marks of any value too */
+    q = p;
+    q.records[0].narrow = 6;
+    q.records[0].sized = 3;
+    q.records[0].size = 300;
+    q.records[1].size = 77;
+    kept = q;
+    REFUSED(pusmarke_pool_data(&q, list, 10, 0, 4294967295u, 1), PUSMARKE_LARGE_FILE_SEGMENT_NOT_SUPPORTED);
+    REFUSED(pusmarke_pool_eof(&q, list, 10, 0, 4294967296u), PUSMARKE_LARGE_FILE_SEGMENT_NOT_SUPPORTED);
+    REFUSED(pusmarke_pool_data(&q, list, 10, 0, 299, 2), PUSMARKE_FILE_SIZE_ERROR);
+    HOLDS(memcmp(&q, &kept, sizeof q) == 0 && memcmp(list, shared, sizeof list) == 0);
+    ACCEPTED(pusmarke_pool_eof(&q, list, 10, 0, 300), 0, 0, 0);
+    kept.records[0].sized = 1;
+    HOLDS(memcmp(&q, &kept, sizeof q) == 0 && memcmp(list, shared, sizeof list) == 0);
+    ACCEPTED(pusmarke_pool_data(&q, list, 10, 1, 4294967295u, 1), 1, 0, 0);
+    kept.records[1].progress = 4294967296u;
+    kept.records[1].count = 2;
+    HOLDS(memcmp(&q, &kept, sizeof q) == 0 && list[6] == 60 && list[7] == 4294967295u && list[8] == 0);
+
+    /* what was kept, what is missing */
+    ACCEPTED(pusmarke_pool_held(p, shared, 10, 0, 120, 150), 1, 0, 0);
+    ACCEPTED(pusmarke_pool_held(p, shared, 10, 0, 0, 60), 1, 0, 0);
+    ACCEPTED(pusmarke_pool_held(p, shared, 10, 1, 0, 60), 0, 0, 0);
+    ACCEPTED(pusmarke_pool_held(p, shared, 10, 1, 50, 60), 1, 0, 0);
+    ACCEPTED(pusmarke_pool_held(p, shared, 10, 1, 50, 61), 0, 0, 0);
+    ACCEPTED(pusmarke_pool_missing_octets(p, shared, 10, 0), 70, 0, 0);
+    ACCEPTED(pusmarke_pool_missing_octets(p, shared, 10, 1), 10, 0, 0);
+
+    /* the sequences */
+    memset(buf, 0xaa, sizeof buf);
+    memcpy(octets, buf, sizeof buf);
+    bad.number_length = 9;
+    REFUSED(pusmarke_pool_nak_sequence(p, shared, 10, 0, bad, older_large, 0, 9, 17, buf, 0), PUSMARKE_BAD_IDENTITY);
+    REFUSED(pusmarke_pool_nak_sequence(p, shared, 10, 0, identity, older_large, 0, 9, 17, buf, 0), PUSMARKE_BAD_HEADER);
+    REFUSED(pusmarke_pool_nak_sequence(p, shared, 10, 0, identity, newer, 23, 9, 17, buf, 0), PUSMARKE_PDU_SIZE);
+    memcpy(was, shared, sizeof was);
+    was[5] = 4294967296u;
+    q = p;
+    q.records[1].progress = 4294967296u;
+    REFUSED(pusmarke_pool_nak_sequence(q, was, 10, 1, identity, newer, 32, 9, 17, buf, 0), PUSMARKE_LARGE_SEGMENT_FOR_NORMAL_FILE_SIZE);
+    REFUSED(pusmarke_pool_nak_sequence(p, shared, 10, 1, identity, newer, 32, 2, 17, buf, 0), PUSMARKE_BAD_CURSOR);
+    REFUSED(pusmarke_pool_nak_sequence(p, shared, 10, 0, identity, newer, 32, 2, 17, buf, 0), PUSMARKE_BUDGET_TOO_LARGE);
+    CARRIES(pusmarke_pool_nak_sequence(p, shared, 10, 0, identity, newer, 32, 0, 2, buf, 63), PUSMARKE_BUFFER_SIZE_MISSMATCH, 64, 63);
+    SAME(octets, buf);
+    ACCEPTED(pusmarke_pool_nak_sequence(p, shared, 10, 0, identity, newer, 32, 0, 2, buf, 64), 1, 32, 2);
+    HOLDS(memcmp(buf, both, 32) == 0 && memcmp(buf + 32, octets + 32, 32) == 0);
+    memcpy(buf, octets, sizeof buf);
+    ACCEPTED(pusmarke_pool_nak_sequence(p, shared, 10, 1, identity, newer, 32, 0, 2, buf, 64), 1, 24, 1);
+    HOLDS(memcmp(buf, one, 24) == 0 && memcmp(buf + 24, octets + 24, 40) == 0);
+}
+
+/* Several transfers, one list. */
+static void pools(void) {
+    uint64_t list[12] = {0};
+    const uint64_t full[12] = {0, 10, 20, 30, 40, 50, 60, 70, 0, 10, 20, 30}, freed[12] = {0, 10, 40, 50, 60, 70, 0, 10, 20, 30, 0, 0};
+    const uint64_t served[12] = {0, 10, 40, 50, 60, 70, 0, 10, 20, 30, 40, 50};
+    const uint64_t ended[12] = {0, 10, 40, 50, 60, 70, 40, 50, 0, 0, 0, 0};
+    struct pusmarke_pool p = pusmarke_pool_fresh(), q, none;
+    uint64_t i;
+
+    /* a pool without transfers, and eight added; a ninth is one too many */
+    memset(&none, 0, sizeof none);
+    HOLDS(memcmp(&p, &none, sizeof p) == 0);
+    for (i = 0; i < 8; i++) {
+        q = pusmarke_pool_add(p, i, (size_t)i, 10);
+        HOLDS(q.used == i + 1 && record_is(q.records[i], 0, 0, i, 1) && q.floors[i] == i && q.limits[i] == 10);
+        p.used = q.used;
+        p.records[i] = q.records[i];
+        p.floors[i] = q.floors[i];
+        p.limits[i] = q.limits[i];
+        HOLDS(memcmp(&p, &q, sizeof p) == 0);
+    }
+    q = pusmarke_pool_add(p, 1, 1, 1);
+    HOLDS(q.used == 9 && memcmp(p.records, q.records, sizeof p - sizeof p.used) == 0);
+    NO_POOL(q, long_list, 8192, 0, PUSMARKE_BAD_POOL);
+    q.used = SIZE_MAX;
+    HOLDS(pusmarke_pool_add(q, 1, 1, 1).used == 9);
+    /* 0 + 1 + … + 7 ranges are promised */
+    ACCEPTED(pusmarke_pool_missing_octets(p, long_list, 56, 7), 0, 0, 0);
+    REFUSED(pusmarke_pool_missing_octets(p, long_list, 54, 7), PUSMARKE_BAD_POOL);
+
+    /* Two sounders in one pass: six ranges, floors 1 and 2. The first can hold four, for 4 + 2 is 6; the second is not refused below its
+     * floor, and then is. */
+    p = pusmarke_pool_add(pusmarke_pool_add(pusmarke_pool_fresh(), 0, 1, 6), 0, 2, 6);
+    ACCEPTED(pusmarke_pool_metadata(&p, list, 12, 0), 0, 0, 0);
+    p.records[1].missing = 9;
+    for (i = 10; i < 80; i += 20) {
+        ACCEPTED(pusmarke_pool_data(&p, list, 12, 0, i, 10), 1, 0, 0);
+    }
+    REFUSED(pusmarke_pool_data(&p, list, 12, 0, 90, 10), PUSMARKE_STORE_FULL);
+    REFUSED(pusmarke_pool_eof(&p, list, 12, 0, 90), PUSMARKE_STORE_FULL);
+    HOLDS(record_is(p.records[0], 80, 4, 0, 0) && record_is(p.records[1], 0, 0, 0, 9));
+    ACCEPTED(pusmarke_pool_data(&p, list, 12, 1, 0, 10), 0, 0, 0); /* noticed */
+    HOLDS(record_is(p.records[1], 10, 1, 0, 9));
+    ACCEPTED(pusmarke_pool_metadata(&p, list, 12, 1), 0, 0, 0);
+    ACCEPTED(pusmarke_pool_data(&p, list, 12, 1, 30, 10), 1, 0, 0);
+    HOLDS(record_is(p.records[1], 40, 1, 0, 0));
+    ACCEPTED(pusmarke_pool_data(&p, list, 12, 1, 10, 10), 1, 0, 0);
+    HOLDS(record_is(p.records[1], 40, 2, 0, 0));
+    SAME(full, list);
+    REFUSED(pusmarke_pool_data(&p, list, 12, 1, 50, 10), PUSMARKE_STORE_FULL);
+    REFUSED(pusmarke_pool_data(&p, list, 12, 0, 25, 1), PUSMARKE_STORE_FULL);
+    SAME(full, list);
+    /* a slot that the first gives up serves the second */
+    ACCEPTED(pusmarke_pool_data(&p, list, 12, 0, 20, 10), 1, 0, 0);
+    SAME(freed, list);
+    ACCEPTED(pusmarke_pool_data(&p, list, 12, 1, 50, 10), 1, 0, 0);
+    SAME(served, list);
+    REFUSED(pusmarke_pool_data(&p, list, 12, 0, 90, 10), PUSMARKE_STORE_FULL);
+    /* two given up at once, and the end of file: slots follow the pool's whole count */
+    ACCEPTED(pusmarke_pool_data(&p, list, 12, 1, 0, 30), 1, 0, 0);
+    SAME(ended, list);
+    ACCEPTED(pusmarke_pool_eof(&p, list, 12, 1, 60), 0, 0, 0);
+    HOLDS(sized_is(p.records[1], 60, 1, 0, 0, 1, 60) && record_is(p.records[0], 80, 3, 0, 0));
+    ACCEPTED(pusmarke_pool_held(p, list, 12, 1, 0, 40), 1, 0, 0);
+    ACCEPTED(pusmarke_pool_missing_octets(p, list, 12, 0), 30, 0, 0);
+    /* past its limit none goes, although there is room */
+    p.limits[1] = 1;
+    p.floors[1] = 1;
+    REFUSED(pusmarke_pool_data(&p, list, 12, 1, 45, 1), PUSMARKE_STORE_FULL);
+    p.limits[1] = 2;
+    ACCEPTED(pusmarke_pool_data(&p, list, 12, 1, 45, 1), 1, 0, 0);
+    HOLDS(list[6] == 40 && list[7] == 45 && list[8] == 46 && list[9] == 50);
+}
+
 /* A pass: what comes with holes is asked for until nothing is missing. */
 static void transfer(void) {
     uint64_t list[32] = {0};
@@ -1378,6 +1642,9 @@ int main(void) {
     timers();
     ticks();
     deferred();
+    pools();
+    bad_pools();
+    pool_calls();
     transfer();
     printf("%u checks, %u wrong\n", checks, wrong);
     return wrong == 0 ? 0 : 1;

@@ -51,6 +51,7 @@ enum pusmarke_refusal {
     PUSMARKE_BUDGET_TOO_LARGE = 20,
     PUSMARKE_BAD_TRAILER = 21,
     PUSMARKE_FILE_SIZE_ERROR = 22,
+    PUSMARKE_BAD_POOL = 23,
     PUSMARKE_BAD_TIMER = 25
 };
 
@@ -110,6 +111,15 @@ struct pusmarke_deferred {
 struct pusmarke_heard {
     struct pusmarke_answer answer;
     struct pusmarke_deferred timer; /* the timer afterwards; the one handed over where the call is refused */
+};
+
+/* Several transfers that share one list: how many there are, and of each, by its number from 0 on, its record, its floor and its limit,
+ * both in ranges. Records, floors and limits behind those are not looked at. */
+struct pusmarke_pool {
+    size_t used;                          /* 8 at most */
+    struct pusmarke_reception records[8]; /* count: the ranges that the transfer holds */
+    size_t floors[8];                     /* so many it can hold whatever the others do */
+    size_t limits[8];                     /* and so many at most */
 };
 
 /* Source and destination entity, of entity_length octets each, and the transaction's sequence number, of number_length octets. */
@@ -309,6 +319,46 @@ struct pusmarke_step pusmarke_next(const uint8_t *packet, size_t packet_length, 
  * flag H + 3 + 4F, room for one request; 7 normal flag, and progress or a counted number above 4,294,967,295; 11 cursor above the number
  * of entries; 20 budget above 16; 6 the buffer is shorter than budget times largest, which is the number needed. */
 struct pusmarke_answer pusmarke_nak_sequence(struct pusmarke_reception record, const uint64_t *list, size_t list_length,
+    struct pusmarke_identity identity, struct pusmarke_form form, size_t largest, size_t cursor, size_t budget, uint8_t *buffer,
+    size_t buffer_length);
+
+/* Several transfers, one list. The list's capacity, S ranges, serves all transfers of a pool; it holds their ranges back to back, in the
+ * order of their numbers, so a slot that one gives up serves any. The caller keeps the pool as it keeps a record, and lends the whole
+ * list to every call.
+ *
+ * Room: where a transfer holds m ranges, an event that would make it m + 1 is refused by 1 exactly if m + 1 is above its limit, or if m is
+ * at or above its floor and the sum, over all transfers, of the larger of ranges held and floor is S. So a transfer that holds fewer ranges
+ * than its floor is never refused for room, whatever the others do. Otherwise the others matter to it through that sum alone.
+ *
+ * After an accepted event, slots from the pool's new count of ranges up to the old one hold (0, 0); slots past both keep their contents.
+ *
+ * Refusals of a pool, in this order: 23 more than eight transfers, a floor above its limit, floors that sum to more than S, or no
+ * transfer of that number; 10 a list of odd length or of more than 4,096 pairs, a transfer that holds more ranges than its limit, that
+ * sum above S, or any transfer's record that would be 10 by itself over its own ranges; 8 and 12 as of a record, of the transfer named. */
+
+/* A pool without transfers. All its numbers are 0. */
+struct pusmarke_pool pusmarke_pool_fresh(void);
+
+/* The pool with one transfer more, numbered by the pool's old `used`: a fresh record as of pusmarke_fresh, and these settings, which are
+ * not checked here but at each call. A ninth makes a pool that every call refuses by 23. It is given by value and handed back: the one
+ * that was handed over stays good. */
+struct pusmarke_pool pusmarke_pool_add(struct pusmarke_pool pool, uint64_t narrow, size_t floor, size_t limit);
+
+/* The three events of a transfer: as pusmarke_data, pusmarke_metadata and pusmarke_eof on its record and its ranges, with that rule for
+ * room. `pool` is never null. Only that transfer's record changes where it lies.
+ * Refusals: those of a pool; then those of the event behind a record's: data 2, 9, 4, 22, 1; metadata 19; end of file 4, 22, 1. */
+struct pusmarke_answer pusmarke_pool_data(struct pusmarke_pool *pool, uint64_t *list, size_t list_length, size_t transfer,
+    uint64_t offset, uint64_t length);
+struct pusmarke_answer pusmarke_pool_metadata(struct pusmarke_pool *pool, const uint64_t *list, size_t list_length, size_t transfer);
+struct pusmarke_answer pusmarke_pool_eof(struct pusmarke_pool *pool, uint64_t *list, size_t list_length, size_t transfer, uint64_t size);
+
+/* What was kept of a transfer, how many of its octets are missing, and its NAK sequence: as pusmarke_held, pusmarke_missing_octets and
+ * pusmarke_nak_sequence. Pool and list are only read. Refusals: those of a pool; then those of the call behind a record's. */
+struct pusmarke_answer pusmarke_pool_held(struct pusmarke_pool pool, const uint64_t *list, size_t list_length, size_t transfer,
+    uint64_t start, uint64_t end);
+struct pusmarke_answer pusmarke_pool_missing_octets(struct pusmarke_pool pool, const uint64_t *list, size_t list_length,
+    size_t transfer);
+struct pusmarke_answer pusmarke_pool_nak_sequence(struct pusmarke_pool pool, const uint64_t *list, size_t list_length, size_t transfer,
     struct pusmarke_identity identity, struct pusmarke_form form, size_t largest, size_t cursor, size_t budget, uint8_t *buffer,
     size_t buffer_length);
 

@@ -1,7 +1,7 @@
 //! The functions of host/include/pusmarke.h. `tests/header.rs` compares the two files.
 //!
 //! Safety of every call: a function asks only that a pointer and the length behind it are a slice's, that what is lent for writing is
-//! lent to nobody else, and that a record's pointer is valid. References and slices of Rust give all of that.
+//! lent to nobody else, and that a record's or a pool's pointer is valid. References and slices of Rust give all of that.
 
 #[repr(C)]
 pub(crate) struct Answer {
@@ -36,6 +36,15 @@ pub(crate) struct Timer {
 pub(crate) struct Heard {
     pub answer: Answer,
     pub timer: Timer,
+}
+
+#[repr(C)]
+#[derive(Clone, Copy, Debug)]
+pub(crate) struct Pool {
+    pub used: usize,
+    pub records: [Record; 8],
+    pub floors: [usize; 8],
+    pub limits: [usize; 8],
 }
 
 /// Whose transaction a NAK PDU is about.
@@ -143,6 +152,40 @@ extern "C" {
         record: Record,
         list: *const u64,
         list_length: usize,
+        identity: Identity,
+        form: Form,
+        largest: usize,
+        cursor: usize,
+        budget: usize,
+        buffer: *mut u8,
+        buffer_length: usize,
+    ) -> Answer;
+    pub(crate) fn pusmarke_pool_fresh() -> Pool;
+    pub(crate) fn pusmarke_pool_add(pool: Pool, narrow: u64, floor: usize, limit: usize) -> Pool;
+    pub(crate) fn pusmarke_pool_data(
+        pool: *mut Pool,
+        list: *mut u64,
+        list_length: usize,
+        transfer: usize,
+        offset: u64,
+        length: u64,
+    ) -> Answer;
+    pub(crate) fn pusmarke_pool_metadata(pool: *mut Pool, list: *const u64, list_length: usize, transfer: usize) -> Answer;
+    pub(crate) fn pusmarke_pool_eof(pool: *mut Pool, list: *mut u64, list_length: usize, transfer: usize, size: u64) -> Answer;
+    pub(crate) fn pusmarke_pool_held(
+        pool: Pool,
+        list: *const u64,
+        list_length: usize,
+        transfer: usize,
+        start: u64,
+        end: u64,
+    ) -> Answer;
+    pub(crate) fn pusmarke_pool_missing_octets(pool: Pool, list: *const u64, list_length: usize, transfer: usize) -> Answer;
+    pub(crate) fn pusmarke_pool_nak_sequence(
+        pool: Pool,
+        list: *const u64,
+        list_length: usize,
+        transfer: usize,
         identity: Identity,
         form: Form,
         largest: usize,

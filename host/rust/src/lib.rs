@@ -4,8 +4,8 @@
 //! [`Store`] is the store of lost segments over a list that the caller lends, with the methods of cfdp-rs's `LostSegmentStore`.
 //! [`Reception`] keeps such a list by what comes, and says whether a range was kept. [`NakSequence`] writes the NAK PDUs that ask for
 //! what is missing, [`write_nak`] writes one, and [`NakReader`] reads one; with a CRC trailer where the [`Form`] says so. [`Timed`] is a
-//! reception with a timer that says when to ask: the deferred NAK procedure. What does not fit is refused: [`Refusal`] says why, and
-//! nothing lent changes.
+//! reception with a timer that says when to ask: the deferred NAK procedure. [`Pool`] is several receptions over one list, each with a
+//! floor that the others cannot take. What does not fit is refused: [`Refusal`] says why, and nothing lent changes.
 //!
 //! The crate allocates nothing, has no dependency and does not panic. The work is done by `libpusmarke_c.a`, whose functions are
 //! proved; the wrappers here are not.
@@ -15,6 +15,7 @@
 mod deferred;
 mod ffi;
 mod nak;
+mod pool;
 mod reception;
 mod refusal;
 mod sequence;
@@ -23,6 +24,7 @@ mod store;
 pub use deferred::{Activity, Deferred, Tick, Timed};
 pub use ffi::Identity;
 pub use nak::{write_nak, Edition, FileFlag, Form, NakReader};
+pub use pool::Pool;
 pub use reception::{Data, Reception};
 pub use refusal::Refusal;
 pub use sequence::{NakSequence, Sent};

@@ -1,5 +1,5 @@
 //! The reception of one file.
-use crate::{ffi, store, Deferred, Form, Identity, NakSequence, Refusal, Segments, Timed, Width};
+use crate::{ffi, sequence::Asker, store, Deferred, Form, Identity, NakSequence, Refusal, Segments, Timed, Width};
 
 /// What became of the data of an accepted event.
 #[derive(Clone, Copy, Debug, PartialEq, Eq)]
@@ -138,6 +138,6 @@ impl<'a> Reception<'a> {
 
     /// The NAK PDUs of that form, of at most `largest` octets each, that ask for all that is missing.
     pub fn nak_sequence(&self, identity: Identity, form: impl Into<Form>, largest: usize) -> NakSequence<'_> {
-        NakSequence::of(self.record, self.list, identity, form.into(), largest)
+        NakSequence::of(Asker::Reception(self.record), self.list, identity, form.into(), largest)
     }
 }

@@ -55,6 +55,8 @@ pub enum Refusal {
     BadTrailer,
     /// 22: a file size below progress, or another than the known one; data past the known size.
     FileSizeError,
+    /// 23: more than eight transfers, a floor above its limit, floors that sum to more than the list's ranges, or no such transfer.
+    BadPool,
     /// 25: a countdown outside 1 to 65,535 ticks, or a limit outside 1 to 255.
     BadTimer,
     /// A number that this crate does not know: the archive is not the one that the crate belongs to.
@@ -88,6 +90,7 @@ impl Refusal {
             20 => Refusal::BudgetTooLarge,
             21 => Refusal::BadTrailer,
             22 => Refusal::FileSizeError,
+            23 => Refusal::BadPool,
             25 => Refusal::BadTimer,
             other => Refusal::Unknown(other),
         })
@@ -118,6 +121,7 @@ impl Refusal {
             Refusal::BudgetTooLarge => 20,
             Refusal::BadTrailer => 21,
             Refusal::FileSizeError => 22,
+            Refusal::BadPool => 23,
             Refusal::BadTimer => 25,
             Refusal::Unknown(number) => *number,
         }
@@ -159,6 +163,7 @@ impl fmt::Display for Refusal {
             Refusal::BudgetTooLarge => f.write_str("budget is above 16 PDUs"),
             Refusal::BadTrailer => f.write_str("trailer is not the CRC of the packet"),
             Refusal::FileSizeError => f.write_str("file size does not fit what came"),
+            Refusal::BadPool => f.write_str("pool has bad settings, or no such transfer"),
             Refusal::BadTimer => f.write_str("timer is out of bounds"),
             Refusal::Unknown(number) => write!(f, "number {number}, which this crate does not know"),
         }

@@ -10,10 +10,17 @@ pub struct Sent {
     pub octets: usize,
 }
 
-/// The NAK PDUs that ask for all that is missing, a few at a time. It lends the reception, which cannot change meanwhile.
+/// Whose sequence it is: one reception's, or a transfer's of a pool.
+#[derive(Clone, Copy, Debug)]
+pub(crate) enum Asker<'r> {
+    Reception(ffi::Record),
+    Transfer(&'r ffi::Pool, usize),
+}
+
+/// The NAK PDUs that ask for all that is missing, a few at a time. It lends the reception or the pool, which cannot change meanwhile.
 #[derive(Clone, Debug)]
 pub struct NakSequence<'r> {
-    record: ffi::Record,
+    asker: Asker<'r>,
     list: &'r [u64],
     identity: Identity,
     form: Form,
@@ -22,26 +29,44 @@ pub struct NakSequence<'r> {
 }
 
 impl<'r> NakSequence<'r> {
-    pub(crate) fn of(record: ffi::Record, list: &'r [u64], identity: Identity, form: Form, largest: usize) -> Self {
-        NakSequence { record, list, identity, form, largest, cursor: 0 }
+    pub(crate) fn of(asker: Asker<'r>, list: &'r [u64], identity: Identity, form: Form, largest: usize) -> Self {
+        NakSequence { asker, list, identity, form, largest, cursor: 0 }
     }
 
     /// Writes the next PDUs back to back, `budget` of them or as many as are left; none where nothing is left. The buffer has at
-    /// least `budget` times `largest` octets. Refused: 13, 15 (the older edition with the large flag), 14, 7, 11, 20 and 6.
+    /// least `budget` times `largest` octets. Refused: 23 (no such transfer), 13, 15 (the older edition with the large flag), 14, 7, 11,
+    /// 20 and 6.
     pub fn write(&mut self, budget: usize, buf: &mut [u8]) -> Result<Sent, Refusal> {
-        let answer = unsafe {
-            ffi::pusmarke_nak_sequence(
-                self.record,
-                self.list.as_ptr(),
-                self.list.len(),
-                self.identity,
-                self.form.marks(),
-                self.largest,
-                self.cursor,
-                budget,
-                buf.as_mut_ptr(),
-                buf.len(),
-            )
+        let answer = match self.asker {
+            Asker::Reception(record) => unsafe {
+                ffi::pusmarke_nak_sequence(
+                    record,
+                    self.list.as_ptr(),
+                    self.list.len(),
+                    self.identity,
+                    self.form.marks(),
+                    self.largest,
+                    self.cursor,
+                    budget,
+                    buf.as_mut_ptr(),
+                    buf.len(),
+                )
+            },
+            Asker::Transfer(pool, transfer) => unsafe {
+                ffi::pusmarke_pool_nak_sequence(
+                    *pool,
+                    self.list.as_ptr(),
+                    self.list.len(),
+                    transfer,
+                    self.identity,
+                    self.form.marks(),
+                    self.largest,
+                    self.cursor,
+                    budget,
+                    buf.as_mut_ptr(),
+                    buf.len(),
+                )
+            },
         };
         let answer = answer.accepted()?;
         self.cursor = answer.third as usize;

@@ -19,8 +19,11 @@ fn bare(text: &str) -> String {
     out + rest
 }
 
-/// A declaration of C without its name, as Rust says it: `const uint8_t *packet` is `*const u8`.
+/// A declaration of C without its name, as Rust says it: `const uint8_t *packet` is `*const u8`, `size_t floors[8]` is `[usize; 8]`.
 fn from_c(declaration: &str) -> String {
+    if let Some((one, number)) = declaration.split_once('[') {
+        return format!("[{}; {}]", from_c(one), number.strip_suffix(']').unwrap());
+    }
     let at = declaration.rfind([' ', '*']).unwrap() + 1;
     let (before, _) = declaration.split_at(at);
     let pointer = before.contains('*');
@@ -32,6 +35,7 @@ fn from_c(declaration: &str) -> String {
         "size_t" => "usize",
         "struct pusmarke_answer" => "Answer",
         "struct pusmarke_reception" => "Record",
+        "struct pusmarke_pool" => "Pool",
         "struct pusmarke_deferred" => "Timer",
         "struct pusmarke_heard" => "Heard",
         "struct pusmarke_identity" => "Identity",
@@ -58,7 +62,7 @@ fn functions_of_c(text: &str) -> BTreeMap<String, Vec<String>> {
             continue;
         }
         let list = behind.trim_end().trim_end_matches(')');
-        let mut types: Vec<String> = list.split(',').map(|a| from_c(a.trim())).collect();
+        let mut types: Vec<String> = list.split(',').map(str::trim).filter(|a| *a != "void").map(from_c).collect();
         types.push(from_c(&format!("{result} x")));
         all.insert(name.to_string(), types);
     }
@@ -84,7 +88,7 @@ fn fields_of_c(text: &str, name: &str) -> Vec<(String, String)> {
     body.split(';')
         .map(str::trim)
         .filter(|f| !f.is_empty())
-        .map(|f| (f.rsplit_once(' ').unwrap().1.to_string(), from_c(f)))
+        .map(|f| (f.rsplit_once(' ').unwrap().1.split('[').next().unwrap().to_string(), from_c(f)))
         .collect()
 }
 
@@ -101,7 +105,7 @@ fn fields_of_rust(text: &str, name: &str) -> Vec<(String, String)> {
 fn functions() {
     let c = functions_of_c(&bare(&text("../include/pusmarke.h")));
     let rust = functions_of_rust(&text("src/ffi.rs"));
-    assert_eq!(c.len(), 22);
+    assert_eq!(c.len(), 30);
     assert_eq!(c, rust);
 }
 
@@ -112,6 +116,7 @@ fn structs() {
     for (a, b) in [
         ("pusmarke_answer", "Answer"),
         ("pusmarke_reception", "Record"),
+        ("pusmarke_pool", "Pool"),
         ("pusmarke_deferred", "Timer"),
         ("pusmarke_heard", "Heard"),
         ("pusmarke_identity", "Identity"),

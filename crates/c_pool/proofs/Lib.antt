@@ -1,0 +1,4 @@
+pub mod InUse
+pub mod Records
+pub mod Meaning
+pub mod FreshPools
