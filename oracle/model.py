@@ -1,12 +1,13 @@
 #!/usr/bin/env python3
-"""A model of the console, written from document 01, document 02's C-11, C-12, C-14, C-16, C-19, C-20, C-22 and C-24 and the console's
-language alone.
+"""A model of the console, written from document 01, document 02's C-11, C-12, C-14, C-16, C-19, C-20, C-21, C-22 and C-24 and the
+console's language alone.
 
     model.py [SCRIPT]      answers the script (or standard input) as the program must
     model.py --self-test   holds the interval algebra and histories of events against plain sets of offsets, a PDU's requests
                            against words of letters, the two editions against each other, and the CRC of a trailer against its
                            published check value, against division of whole numbers, and against every single bit turned over;
-                           of the deferred NAK, the ticks since it was started last
+                           of a pool, every transfer against its own set of offsets and the sum over all; of the deferred NAK, the
+                           ticks since it was started last
 
 Numbers are Python's, lists are lists of pairs; nothing here follows the Rust or the port.
 """
@@ -257,8 +258,8 @@ class Reception:
             raise Refused(10)
         return list(zip(flat[::2], flat[1::2]))
 
-    def record(self):
-        """Checks 10, 8 and 12 of the events and the sequence; the counted pairs."""
+    def whole(self):
+        """Check 10 of a record; the counted pairs."""
         pairs = self.pairs()
         if self.narrow and self.progress > NARROW:
             raise Refused(10)
@@ -266,6 +267,11 @@ class Reception:
             raise Refused(10)
         if self.size is not None and self.progress != self.size:
             raise Refused(10)
+        return pairs
+
+    def record(self):
+        """Checks 10, 8 and 12 of the events and the sequence; the counted pairs."""
+        pairs = self.whole()
         if not is_coalesced(pairs):
             raise Refused(8)
         if pairs and pairs[-1][1] > self.progress:
@@ -449,13 +455,86 @@ class Reception:
             sent.append(packet(identity, self.older, large, self.crc, start, end, taken))
         return [f'pdu {pdu.hex()}' for pdu in sent] + [f'sent {len(sent)} {sum(map(len, sent))} {cursor}']
 
-    # The record as the console shows it.
+    # The record as the console sets and shows it.
+
+    def load(self, progress, missing, count, size):
+        self.progress, self.missing, self.count, self.size = progress, missing, count, size
+        return 'ok'
+
+    def shown(self, *of_the_list):
+        """What `show` says before the numbers."""
+        marks = ['missing' if self.missing else 'known', 'open' if self.size is None else self.size]
+        return ['narrow' if self.narrow else 'wide', *of_the_list, self.count, self.progress, *marks]
 
     def show(self):
-        mark = f'{"narrow" if self.narrow else "wide"} {self.length} {self.count} {self.progress}'
-        mark += ' missing' if self.missing else ' known'
-        mark += ' open' if self.size is None else f' {self.size}'
-        return ' '.join([mark, *map(str, self.memory[:2 * min(self.count, MEMORY // 2)])])
+        return ' '.join(map(str, [*self.shown(self.length), *self.memory[:2 * min(self.count, MEMORY // 2)]]))
+
+
+class Transfer(Reception):
+    """One of a pool's transfers: its own record and width, its ranges in the pool's list; its floor and limit decide on room."""
+
+    def __init__(self, pool, narrow, floor, limit):
+        self.pool, self.narrow, self.floor, self.limit = pool, narrow, floor, limit
+        self.count, self.progress, self.missing, self.size = 0, 0, True, None
+
+    def numbers(self):
+        """Its counted numbers: they stand behind those of the transfers before it."""
+        before = sum(other.count for other in self.pool.transfers[:self.pool.transfers.index(self)])
+        return self.pool.memory[2 * before:2 * (before + self.count)]
+
+    def pairs(self):
+        flat = self.numbers()
+        if self.narrow and flat and max(flat) > NARROW:
+            raise Refused(10)
+        return list(zip(flat[::2], flat[1::2]))
+
+    def capacity(self):
+        """How many ranges it may have after an event: one more than it holds, unless that passes the limit, or the floor while all slots
+        are held or kept free for the others."""
+        bounded = self.count + 1 > self.limit
+        full = self.count >= self.floor and self.pool.taken() == self.pool.slots()
+        return self.count if bounded or full else self.count + 1
+
+    def put(self, pairs):
+        """Its ranges become these; all transfers' ranges stand back to back again, and slots that the whole list gives up hold 0."""
+        lists = [[n for pair in pairs for n in pair] if other is self else other.numbers() for other in self.pool.transfers]
+        before = 2 * sum(other.count for other in self.pool.transfers)
+        flat, self.count = [n for numbers in lists for n in numbers], len(pairs)
+        self.pool.memory[:len(flat)] = flat
+        for at in range(len(flat), before):
+            self.pool.memory[at] = 0
+
+    def show(self):
+        return ' '.join(map(str, [*self.shown(self.floor, self.limit), *self.numbers()]))
+
+
+class Pool:
+    """Transfers over one list of ranges, unchecked: each call asks for itself."""
+
+    def __init__(self, ranges, groups):
+        self.memory, self.length = [0] * MEMORY, 2 * ranges
+        self.transfers = [Transfer(self, *group) for group in groups]
+
+    def slots(self):
+        """S, the list's length in ranges."""
+        return self.length // 2
+
+    def taken(self):
+        """The sum over all transfers of the larger of held and floor."""
+        return sum(max(one.count, one.floor) for one in self.transfers)
+
+    def named(self, which):
+        """Check 23, then 10 over every transfer; the transfer that is named, whose calls ask for 8 and 12."""
+        settings = all(one.floor <= one.limit for one in self.transfers) and sum(one.floor for one in self.transfers) <= self.slots()
+        if not settings or len(self.transfers) > 8 or which >= len(self.transfers):
+            raise Refused(23)
+        if self.length % 2 or self.slots() > 4096 or self.taken() > self.slots():
+            raise Refused(10)
+        for one in self.transfers:
+            if one.count > one.limit:
+                raise Refused(10)
+            one.whole()
+        return self.transfers[which]
 
 
 class Timer:
@@ -495,16 +574,21 @@ class Timer:
         return f'timer {self.state} {self.left} {self.counter}'
 
 
-# The events, which a timer is told of: how many numbers each has.
-EVENTS = {'data': 2, 'eof': 1, 'metadata': 0}
+# Commands that work in every kind of reception, and those that a pool has besides.
+ANYWHERE = ('new', 'pool', 'link', 'write', 'read')
+OF_A_POOL = ('for', 'lend', 'poke', 'slots')
+# Commands that a timer is told of.
+EVENTS = ('data', 'eof', 'metadata')
+# Calls without arguments, by their commands.
+CALLS = {'metadata': 'metadata', 'missing': 'missing_octets', 'show': 'show'}
 
 
 class Console(Reception):
-    """One reception with its timer, if it has one; and the words of a line."""
+    """One reception with its timer, if it has one, or the pool that stands in its place; and the words of a line."""
 
     def begin(self, narrow, ranges):
         super().begin(narrow, ranges)
-        self.timer = None
+        self.pool = self.timer = None
 
     def command(self, words):
         """The answer to a line's words, a line or a list of lines."""
@@ -514,22 +598,23 @@ class Console(Reception):
             if len(rest) != n:
                 raise Malformed
 
+        lent = self if self.pool is None else self.pool
+        if name == 'for' if self.pool is None else name not in ANYWHERE + OF_A_POOL:
+            raise Malformed
+        if name == 'for':
+            if len(rest) < 2:
+                raise Malformed
+            return self.for_transfer(number(rest[0]), rest[1], rest[2:])
         if name == 'poke':
             numbers = [number(word) for word in rest]
             if not numbers or numbers[0] + len(numbers) - 1 > MEMORY:
                 raise Malformed
             at, values = numbers[0], numbers[1:]
-            self.memory[at:at + len(values)] = values
-            return 'ok'
-        if name == 'load':
-            need(4)
-            progress, missing, count = number(rest[0]), choice(rest[1], 'known', 'missing'), number(rest[2])
-            size = None if rest[3] == 'open' else number(rest[3])
-            self.progress, self.missing, self.count, self.size = progress, missing, count, size
+            lent.memory[at:at + len(values)] = values
             return 'ok'
         if name == 'lend':
             need(1)
-            self.length = number(rest[0], MEMORY)
+            lent.length = number(rest[0], MEMORY)
             return 'ok'
         if name == 'new':
             if rest[:1] == ['pairs']:
@@ -538,34 +623,26 @@ class Console(Reception):
             narrow, ranges = choice(rest[0], 'wide', 'narrow'), number(rest[1], 4096)
             self.begin(narrow, ranges)
             return 'ok'
+        if name == 'pool':
+            if len(rest) % 3 != 1 or len(rest) > 1 + 3 * 9:
+                raise Malformed
+            groups = [(choice(width, 'wide', 'narrow'), number(floor), number(limit))
+                      for width, floor, limit in zip(rest[1::3], rest[2::3], rest[3::3])]
+            self.pool, self.timer = Pool(number(rest[0], MEMORY // 2), groups), None
+            return 'ok'
         if name == 'link':
             need(2)
             self.older, self.crc = choice(rest[0], 'newer', 'older'), choice(rest[1], 'plain', 'crc')
             return 'ok'
-        if name == 'show':
-            need(0)
-            return self.show()
         if name == 'slots':
             need(1)
-            return ' '.join(['slots', *map(str, self.memory[:number(rest[0], MEMORY)])])
-        if name in ('add', 'insert', 'remove', 'within', 'held'):
+            return ' '.join(['slots', *map(str, lent.memory[:number(rest[0], MEMORY)])])
+        if name in ('add', 'insert', 'remove', 'within'):
             need(2)
             return getattr(self, name)(number(rest[0]), number(rest[1]))
-        if name in EVENTS:
-            need(EVENTS[name])
-            return self.event(name, [number(word) for word in rest])
         if name == 'coalesce':
             need(0)
             return self.coalesce()
-        if name == 'missing':
-            need(0)
-            return self.missing_octets()
-        if name == 'map':
-            need(1)
-            cells = number(rest[0], 200)
-            if cells == 0:
-                raise Malformed
-            return self.picture(cells)
         if name == 'octets':
             need(2)
             return self.octets(choice(rest[0], 'normal', 'large'), number(rest[1], BUFFER))
@@ -583,26 +660,20 @@ class Console(Reception):
             numbers = [start, end] + [n for pair in requests for n in pair]
             marks = ['large' if large else 'normal', 'crc' if flagged else 'plain']
             return ' '.join(['nak', *map(str, identity), *marks, *map(str, numbers)])
-        if name == 'nak':
-            need(10)
-            identity, large = [number(word) for word in rest[:5]], choice(rest[5], 'normal', 'large')
-            largest, cursor, budget = [number(word) for word in rest[6:9]]
-            return self.nak(identity, large, largest, cursor, budget, number(rest[9], BUFFER))
         if name == 'defer':
             need(2)
             self.timer = Timer(number(rest[0]), number(rest[1]))
             return 'ok'
         if name in ('tick', 'reset', 'timer'):
             return self.timed(name, rest)
-        raise Malformed
+        call = self.call(name, rest)
+        return self.event(call, name == 'metadata') if name in EVENTS and self.timer is not None else call(self)
 
-    def event(self, name, numbers):
-        """An event, which goes to the timer too: that starts anew where fewer octets are missing than before, or at the metadata."""
-        if self.timer is None:
-            return getattr(self, name)(*numbers)
+    def event(self, call, restart):
+        """An event that goes to the timer too: it starts anew where fewer octets are missing than before, or at the metadata."""
         before = self.lacking()
-        answer = getattr(self, name)(*numbers)
-        self.timer.event(self, name == 'metadata' or self.lacking() < before)
+        answer = call(self)
+        self.timer.event(self, restart or self.lacking() < before)
         return answer
 
     def timed(self, name, rest):
@@ -619,6 +690,53 @@ class Console(Reception):
         self.record()
         self.timer.judge(self, True)
         return 'ok'
+
+    def for_transfer(self, which, name, rest):
+        """The call for that transfer of the pool. The console keeps eight records to be set and shown; of any other a call answers 23."""
+        call, transfers = self.call(name, rest), self.pool.transfers
+        if name in ('load', 'show'):
+            if which >= min(8, len(transfers)):
+                raise Malformed
+            return call(transfers[which])
+        transfer = self.pool.named(which)
+        transfer.older, transfer.crc = self.older, self.crc
+        return call(transfer)
+
+    def call(self, name, rest):
+        """What these words ask of a record, one reception's or a transfer's."""
+        def need(n):
+            if len(rest) != n:
+                raise Malformed
+
+        if name == 'load':
+            need(4)
+            progress, missing, count = number(rest[0]), choice(rest[1], 'known', 'missing'), number(rest[2])
+            size = None if rest[3] == 'open' else number(rest[3])
+            return lambda of: of.load(progress, missing, count, size)
+        if name in ('data', 'held'):
+            need(2)
+            numbers = number(rest[0]), number(rest[1])
+            return lambda of: getattr(of, name)(*numbers)
+        if name == 'eof':
+            need(1)
+            size = number(rest[0])
+            return lambda of: of.eof(size)
+        if name in CALLS:
+            need(0)
+            return lambda of: getattr(of, CALLS[name])()
+        if name == 'map':
+            need(1)
+            cells = number(rest[0], 200)
+            if cells == 0:
+                raise Malformed
+            return lambda of: of.picture(cells)
+        if name == 'nak':
+            need(10)
+            identity, large = [number(word) for word in rest[:5]], choice(rest[5], 'normal', 'large')
+            largest, cursor, budget = [number(word) for word in rest[6:9]]
+            length = number(rest[9], BUFFER)
+            return lambda of: of.nak(identity, large, largest, cursor, budget, length)
+        raise Malformed
 
     def line(self, at, text):
         """The answers to line `at`, a list of lines; None if it is passed over."""
@@ -826,6 +944,51 @@ def history(rng):
     told.check()
     assert told.kept == set(range(told.front)) and not told.asked() and told.ask('show').endswith(f' known {told.front}')
     return told.done
+
+
+def pool_history(rng):
+    """C-21 said of sets: a random history of events of several transfers, each with its own set of missing offsets. Of an event that
+    makes one range more, the limit, the floor and the sum over all decide; the list is all runs back to back, and behind them the
+    slots that it gave up hold 0 and the others what they held. Below its floor none is refused for room, and none passes its limit."""
+    n = rng.randint(1, 8)
+    floors = [rng.randint(0, 3) for _ in range(n)]
+    limits = [floor + rng.randint(0, 3) for floor in floors]
+    slots = sum(floors) + rng.randint(0, 4)
+    console, memory = Console(), [rng.randint(90, 99) for _ in range(2 * slots + 8)]
+    groups = ' '.join(f'{rng.choice(("wide", "narrow"))} {floor} {limit}' for floor, limit in zip(floors, limits))
+    for line in (f'pool {slots} {groups}', 'poke 0 ' + ' '.join(map(str, memory))):
+        assert console.line(1, line) == ['ok'], line
+    # Of each transfer the missing offsets, progress, size, and whether metadata is missing.
+    records = [(set(), 0, None, True)] * n
+    for done in range(60):
+        i, (a, b) = rng.randrange(n), sorted(rng.sample(range(16), 2))
+        members, progress, size, missing = records[i]
+        event = rng.choice(('data', 'data', 'data', 'data', 'data', 'eof', 'metadata'))
+        held = [len(spans(record[0])) for record in records]
+        if event == 'metadata':
+            said, left = 'known' if missing else 'refused 19', (members, progress, size, False)
+        else:
+            act = data_of_sets if event == 'data' else end_of_sets
+            said, pairs, *rest = act(members, progress, size, missing, 99, *((a, b) if event == 'data' else (b,)))
+            left = offsets(pairs), *rest, missing
+            if len(pairs) > held[i]:
+                assert len(pairs) == held[i] + 1, (records[i], event, a, b)
+                full = sum(map(max, held, floors)) == slots and held[i] >= floors[i]
+                if full or len(pairs) > limits[i]:
+                    assert held[i] >= floors[i]
+                    said, left = 'refused 1', records[i]
+        words = {'data': f'data {a} {b - a}', 'eof': f'eof {b}', 'metadata': 'metadata'}[event]
+        assert console.line(1, f'for {i} {words}') == [said], (records, i, words, said)
+        before, records[i] = sum(held), left
+        assert all(len(spans(record[0])) <= limit for record, limit in zip(records, limits))
+        flat = [x for record in records for pair in spans(record[0]) for x in pair]
+        memory = flat + [0] * (2 * before - len(flat)) + memory[max(len(flat), 2 * before):]
+        assert console.line(1, f'slots {len(memory)}') == ['slots ' + ' '.join(map(str, memory))], (records, i, words)
+        missed = len(records[i][0])
+        assert console.line(1, f'for {i} missing') == [f'missing {missed}'], (records, i)
+        kept = set() if records[i][3] else set(range(records[i][1])) - records[i][0]
+        assert console.line(1, f'for {i} held {a} {b}') == [held_of_sets(kept, a, b)], (records, i, a, b)
+    return done + 1
 
 
 def timer_history(rng):
@@ -1043,6 +1206,9 @@ def self_test():
     rng = random.Random('histories')
     done = sum(history(rng) for _ in range(400))
     print(f'self-test: 400 histories agree with the sets of octets kept, in {done} answers')
+    rng = random.Random('pools')
+    done = sum(pool_history(rng) for _ in range(300))
+    print(f'self-test: 300 pools agree with a set of offsets for each transfer, in {done} events')
     rng = random.Random('timers')
     done = sum(timer_history(rng) for _ in range(500))
     print(f'self-test: 500 timers agree with the ticks since their last start, in {done} events, resets and ticks')

@@ -130,7 +130,8 @@ HELD_EXAMPLES = [
     '# Records that are none, for each of the three: 10 of each kind, 8, 12; before 2 and 3. The last three are sound.',
     *(line for width, record in itertools.product(WIDTHS, (
         (2, [(0, 9)], 1, 9, 'missing', 8), (4, [(1, 2), (5, 6)], 2, 9, 'missing', 'open'), (4, [(1, 2), (5, 6)], 2, 9, 'known', 8),
-        (3, [(1, 2)], 1, 9, 'known', 'open'), (2, [(1, 2)], 2, 9, 'known', 'open'), (8194, [(1, 2)], 1, 9, 'known', 'open'), (4, [(1, 2), (5, NARROW + 1)], 2, 2**33, 'known', 'open'),
+        (3, [(1, 2)], 1, 9, 'known', 'open'), (2, [(1, 2)], 2, 9, 'known', 'open'), (8194, [(1, 2)], 1, 9, 'known', 'open'),
+        (4, [(1, 2), (5, NARROW + 1)], 2, 2**33, 'known', 'open'),
         (4, [(1, 2), (5, 6)], 2, NARROW + 1, 'known', 'open'), (4, [(5, 6), (1, 2)], 2, 9, 'known', 'open'), (4, [(1, 2), (2, 6)], 2, 9, 'known', 9),
         (4, [(5, 6), (1, 12)], 2, 9, 'known', 9), (4, [(1, 2), (5, 12)], 2, 9, 'known', 9), (4, [(1, 2), (5, 10)], 2, 9, 'known', 'open'),
         (4, [(1, 2), (5, 9)], 2, 9, 'known', 'open'), (2, [(0, 50)], 1, 50, 'missing', 50), (4, [(10, 20), (30, 40)], 2, 50, 'known', 'open')))
@@ -187,6 +188,47 @@ TRAILER_EXAMPLES = [
       for octets in (resealed(bytes.fromhex(stated)), bytes.fromhex(stated))),
     words('read', '2a' + EXAMPLE[2:]), words('read', '28' + SEALED[2:]), words('read', SEALED[:-4]), words('read', SEALED[:-2]),
     words('read', '2a0019' + SEALED[6:-4]), words('read', SEALED[:-4] + '6502'),
+]
+
+TWO_POOL = [scripts.pool(3, ('wide', 0, 3), ('narrow', 2, 3)), scripts.transfer(0, 'metadata'), scripts.transfer(1, 'metadata')]
+POOL_EXAMPLES = [
+    '# Document 02, C-21: floors 0 and 2 of three slots; the second transfer is not refused below its floor, whatever the first does.',
+    *TWO_POOL, 'for 0 data 1 1', 'for 0 data 3 1', 'for 0 show', 'slots 8', 'for 1 data 1 1', 'for 1 data 3 1', 'for 1 data 5 1', 'for 1 show', 'slots 8',
+    '# What keeps the number of ranges or lowers it is never refused; a slot that is freed serves any.',
+    'for 0 data 2 9', 'for 0 eof 11', 'for 0 data 0 1', 'slots 8', 'for 1 data 5 1', 'for 0 data 3 8', 'for 0 show', 'for 1 show', 'for 0 missing', 'for 1 missing',
+    'for 0 held 0 11', 'for 1 held 0 2', 'for 1 held 1 2', 'for 1 map 6', 'for 0 map 11', 'for 1 nak 1 1 1 7 2 normal 32 0 16 512', 'for 1 eof 6', 'for 1 eof 7',
+    '# A limit of one, of none; the sum counts the larger of held and floor; the whole of a floor is there for a transfer that waits.',
+    scripts.pool(9, ('wide', 0, 1), ('narrow', 0, 0)), 'for 0 data 1 1', 'for 0 data 9 9', 'for 0 metadata', 'for 0 data 3 1', 'for 0 data 0 18', 'for 0 data 20 1',
+    'for 1 data 0 1', 'for 1 eof 0', 'for 1 metadata', 'for 0 show', 'for 1 show', scripts.pool(5, ('wide', 3, 4), ('wide', 0, 5)), 'for 0 data 0 4',
+    'for 1 metadata',
+    'for 1 data 1 1', 'for 1 data 3 1', 'for 1 data 5 1', 'for 0 metadata', 'for 0 data 5 1', 'for 0 data 7 1', 'for 0 data 9 1', 'for 1 data 0 9',
+    'for 0 data 9 1', 'slots 12',
+    '# 23 first: none, one, eight and nine transfers; a floor above its limit; floors above S, also past 64 bits; one that there is none of.',
+    'pool 9', 'for 0 missing', 'for 0 show', *(line for n in (1, 8, 9) for line in (
+        scripts.pool(9, *[('wide', 1, 1)] * n), *(f'for {i} {call}' for i in (0, 6, 7, 8, 9) for call in ('missing', 'load 5 known 0 5', 'show', 'metadata')))),
+    scripts.pool(9, *[('wide', 1, 1)] * 10), 'for 7 show', *(line for slots, groups in (
+        (9, ((0, 9), (3, 2))), (9, ((0, 9), (3, 3))), (4, ((2, 9), (3, 9))), (5, ((2, 9), (3, 9))), (4, ((2**64 - 1, 2**64 - 1), (1, 1))),
+        (4, ((2**63, 2**63), (2**63, 2**63))),
+        (0, ((0, 0), (0, 9))), (4096, ((4096, 4096), (0, 1))), (4097, ((0, 4096), (0, 1))), (4100, ((0, 1), (0, 1))), (4101, ((0, 1), (0, 1))))
+        for line in (scripts.pool(slots, *(('wide', *group) for group in groups)), 'for 0 data 5 1', 'for 1 missing', 'for 2 missing', 'for 0 show')),
+    '# 23 before 10 of an odd list; 10 of counts, sums and records, at the one named and at the other; 8 and 12 at the one named.',
+    scripts.pool(2, ('wide', 1, 2)), 'lend 3', 'for 0 missing', 'for 1 missing', 'lend 1', 'for 0 missing', 'lend 2', 'for 0 missing', 'lend 8192',
+    'for 0 missing', 'lend 8194',
+    'for 0 missing', scripts.pool(4, ('wide', 0, 2), ('narrow', 1, 4)), *(line for records in (
+        ([(1, 2), (3, 4), (5, 6)], 9, 'known', 'open', [], 9, 'known', 'open'), ([(1, 2), (3, 4)], 9, 'known', 'open', [(1, 2), (3, 4)], 9, 'known', 9),
+        ([(1, 2)], 9, 'known', 'open', [(1, 2), (3, 4), (5, 6), (7, 8)], 9, 'known', 'open'), ([], 9, 'known', 'open', [(1, 2), (3, 4), (5, 6), (7, 8)], 9,
+                                                                                               'known', 'open'),
+        ([(1, 2)], 9, 'known', 8, [], 9, 'known', 9), ([(1, 2)], 9, 'known', 9, [], 9, 'known', 8), ([(1, 9)], 9, 'missing', 'open', [], 0, 'missing', 'open'),
+        ([(0, 9)], 9, 'missing', 'open', [], 9, 'missing', 'open'), ([(1, NARROW + 1)], NARROW + 1, 'known', 'open', [(1, 2)], NARROW, 'known', 'open'),
+        ([(1, 2)], 9, 'known', 'open', [(1, NARROW)], NARROW, 'known', NARROW), ([(1, 2)], 9, 'known', 'open', [(1, NARROW + 1)], 9, 'known', 'open'),
+        ([(1, 2)], 9, 'known', 'open', [], NARROW + 1, 'known', 'open'),
+        ([(3, 4), (1, 2)], 9, 'known', 'open', [(1, 10)], 9, 'known', 'open'), ([(1, 10)], 9, 'known', 'open', [(1, 2), (2, 4)], 9, 'known', 'open'))
+        for line in (*scripts.set_pool([records[:4], records[4:]]), 'for 0 missing', 'for 1 missing', 'for 0 data 0 0', 'for 1 metadata', 'for 0 eof 9',
+                     'slots 10')),
+    '# Counts that pass the list: of its numbers are shown those within the first 8,200.',
+    'poke 8196 5 6 7 8', 'for 0 load 0 known 4099 open', 'for 1 load 0 known 3 open', 'for 1 show', 'for 0 load 0 known 4100 open', 'for 1 show', 'for 0 missing',
+    'for 0 load 0 known 18446744073709551615 open', 'for 1 show', 'for 1 load 0 known 18446744073709551615 open', 'for 1 show', 'for 1 missing',
+    scripts.pool(2, ('narrow', 0, 1)), 'for 0 data 5 1', 'for 0 show',
 ]
 
 ONE_HOLE = ['new wide 8', 'metadata', 'data 0 10', 'data 20 10']
@@ -442,6 +484,19 @@ def sequence(rng):
             return out
 
 
+def pool(rng):
+    """Several transfers over one list."""
+    out = [*POOL_EXAMPLES, '# Small pools in which every event is tried; the order of the checks; settings and counts that no pool has.']
+    for generator, blocks in ((scripts.pool_small, 40), (scripts.pool_checks, 120), (scripts.pool_settings, 60)):
+        out += short(generator, blocks, 400)
+    out += [line for line in short(scripts.pool_counts, 8, 400) if not line.endswith(' show')]
+    out.append('# Pools that are filled to the last slot; slots with other numbers; two sounders; links; words; histories.')
+    for generator, blocks in ((scripts.pool_full, 12), (scripts.pool_slots, 60), (scripts.pool_sounders, 8), (scripts.pool_links, 2), (scripts.pool_words, 400),
+                              (scripts.pool_history, 8)):
+        out += [line for line in short(generator, blocks, 400) if line != 'slots 8200']
+    return [*out, set_link('newer'), 'new wide 4']
+
+
 def deferred(rng):
     """The deferred NAK: events, ticks and resets."""
     out = [*DEFERRED_EXAMPLES, '# Each state, each event and a reset on records of every kind; ticks around the expiries; timers made late; words; histories.']
@@ -486,6 +541,7 @@ REACHED = {
     'sequence': {'nak': scripts.REACH['nak'] - scripts.UNEQUAL - scripts.LINKED_KINDS['nak'] - scripts.CRC_KINDS['nak'] - {8, 10, 12}},
     'console': {**{name: {10} for name in ('add', 'coalesce', 'within', 'octets')}, 'insert': {8, 10}, 'remove': {8, 10},
                 'nak': {8, 10, 12}, 'data': {8, 10, 12}, 'metadata': {8, 10, 12, 19}, 'eof': {8, 10, 12}},
+    'pool': scripts.POOLED,
     'deferred': {**scripts.STARTED, **scripts.TIMED},
 }
 
@@ -527,7 +583,7 @@ def make(rust, run):
     """Writes the sample; says of each file whether it is as it was. False if something is amiss."""
     amiss, script = [], []
     # The console as it starts comes first; its last line goes without a newline.
-    for maker in (console, store, codec, link, trailer, reception, held, sequence, deferred):
+    for maker in (console, store, codec, link, trailer, reception, held, sequence, pool, deferred):
         name = maker.__name__
         lines = maker(random.Random(f'sample {name}'))
         if maker is store:

@@ -4,7 +4,7 @@
     scripts.py --list                    the generators and what each reaches
     scripts.py NAME [SEED [BLOCKS]]      prints blocks of that generator
 
-A generator yields blocks: lists of lines that begin with `new` and need nothing before them (the first
+A generator yields blocks: lists of lines that begin with `new` or `pool` and need nothing before them (the first
 of `nonsense` begins with the console as it starts). A block that sets the link, which `new` leaves as it
 is, ends with `link newer plain`.
 Those of STORE hold store calls alone, which the Rust can judge; those of REST the others too.
@@ -1479,6 +1479,291 @@ def link_history(rng):
         yield [*block, link('newer')]
 
 
+# Several transfers, one pool (C-21).
+
+def pool(slots, *groups):
+    """The line that makes a pool; a group is a width, a floor and a limit."""
+    return words('pool', slots, *(word for group in groups for word in group))
+
+
+def transfer(i, *command):
+    return words('for', i, *command)
+
+
+def set_pool(records):
+    """Lines that make these the transfers' records: (pairs, progress, mark, size) each, the pairs back to back."""
+    flat = [n for pairs, *_ in records for pair in pairs for n in pair]
+    pokes = [words('poke', at, *flat[at:at + 3000]) for at in range(0, len(flat), 3000)]
+    return pokes + [transfer(i, 'load', progress, mark, len(pairs), size) for i, (pairs, progress, mark, size) in enumerate(records)]
+
+
+def holes(n, base=0):
+    """n ranges apart from each other, and a progress behind them."""
+    return [(base + 10 * i + 2, base + 10 * i + 8) for i in range(n)], base + 10 * n
+
+
+def pool_small(rng):
+    """Every pool of two transfers with up to three slots, floors to 2, limits and ranges held to 3: events of the first and of the second
+    that make one range more (a gap, a split, a tail; waiting, the first data), and such as keep their number or lower it; among them bad
+    settings, counts above the limit and sums above S: kept, noticed, ended, 1, 10, 23."""
+    for slots, floors, limits, held in shuffled(rng, range(4), itertools.product(range(3), repeat=2), itertools.product(range(4), repeat=2),
+                                                itertools.product(range(4), repeat=2)):
+        groups = [(rng.choice(WIDTHS), floor, limit) for floor, limit in zip(floors, limits)]
+        # Most of the bad ones are left out: each is met often enough.
+        bad = sum(floors) > slots or any(f > l or h > l for f, l, h in zip(floors, limits, held))
+        if (bad or sum(held) > slots) and rng.random() < 0.9:
+            continue
+        records = [(*holes(n), 'known', 'open') if n else rng.choice((([], 0, 'known', 'open'), ([], 0, 'missing', 'open'))) for n in held]
+        block = [pool(slots, *groups)]
+        for i, n in enumerate(held):
+            events = [('data', 10 * n + 5, 1), ('eof', 10 * n + 9), ('data', 10 * n, 5), ('eof', 10 * n)]
+            if n:
+                events += [('data', 4, 2), ('data', 2, 6), ('data', 2, 3), ('data', 0, 10 * n + 1), ('data', 3, 10 * n)]
+            for event in events:
+                block += [*set_pool(records), transfer(i, *event), transfer(0, 'show'), transfer(1, 'show'), 'slots 10']
+        yield block
+
+
+def some_settings(rng, n, slots):
+    """Floors and limits of n transfers for that many slots, mostly good and mostly tight."""
+    floors = [rng.choice((0, 0, 1, 2, slots // n)) for _ in range(n)]
+    while sum(floors) > slots:
+        floors[floors.index(max(floors))] -= 1
+    limits = [rng.choice((floor, floor + 1, floor + 2, slots, slots + 9, TOP)) for floor in floors]
+    return [(rng.choice(WIDTHS), floor, limit) for floor, limit in zip(floors, limits)]
+
+
+def pool_event(rng, i, front, step):
+    """An event of transfer i, its data around `front`, and the furthest end that it may make."""
+    kind = rng.random()
+    if kind < 0.06:
+        return transfer(i, 'metadata'), front
+    if kind < 0.1:
+        return transfer(i, 'eof', front + rng.choice((0, 0, 1, 5)) * step), front
+    offset = front + rng.choice((0, 1, 2)) * step if kind < 0.5 else rng.randint(0, front + 1)
+    length = rng.choice((1, 1, 2, 3, 9)) * rng.randint(1, step)
+    return transfer(i, 'data', offset, length), max(front, offset + length)
+
+
+def pool_asked(rng, i, front):
+    """A question about transfer i."""
+    a, b = rng.randint(0, front + 2), rng.randint(0, front + 2)
+    return rng.choice((transfer(i, 'missing'), transfer(i, 'show'), transfer(i, 'held', *sorted((a, b))), transfer(i, 'held', a, b),
+                       transfer(i, 'map', rng.choice((1, 7, 200))), transfer(i, 'nak', *[1, 1, 1, 7, 2], rng.choice(FLAGS), 64, 0, 4, 256)))
+
+
+def pool_history(rng):
+    """Long histories of one to eight transfers that share few slots, mixed at random, so that each comes to its floor and its limit and
+    the pool is full now and again; slots with other numbers at first; metadata first, late and never, ends of file, questions and
+    sequences in between."""
+    while True:
+        n, slots = rng.choice((1, 2, 2, 3, 4, 8)), rng.choice((0, 1, 2, 3, 4, 6, 9, 20))
+        block = [pool(slots, *some_settings(rng, n, slots)), words('poke', 0, *(rng.randint(90, 99) for _ in range(2 * slots + 4)))]
+        fronts, step = [0] * n, rng.choice((1, 3, 10))
+        for i in range(n):
+            if rng.random() < 0.8:
+                block.append(transfer(i, 'metadata'))
+        for _ in range(rng.choice((20, 100, 200))):
+            i = rng.choice((rng.randrange(n), 0))
+            event, fronts[i] = pool_event(rng, i, fronts[i], step)
+            block.append(event)
+            if rng.random() < 0.2:
+                block.append(pool_asked(rng, i, fronts[i]))
+            if rng.random() < 0.1:
+                block.append(words('slots', 2 * slots + 4))
+            if fronts[i] > 60 * step and rng.random() < 0.1:
+                # All of its file comes: its slots are free for the others.
+                block += [transfer(i, 'data', 0, fronts[i]), words('slots', 2 * slots + 4)]
+        yield [*block, *(transfer(i, 'show') for i in range(n + 1)), words('slots', 2 * slots + 4)]
+
+
+def pool_full(rng):
+    """Pools that are filled to the last slot by each transfer in turn: a gap more until it is refused, then one below its floor, which is
+    not; then a hole of one is closed and the slot serves another; two to eight transfers, floors that leave slots and that don't."""
+    for n, spare, floor, wide in shuffled(rng, (2, 3, 5, 8), (0, 1, 3), (0, 1, 2), (0, 1, 9)):
+        slots = n * floor + spare
+        block = [pool(slots, *((WIDTHS[i % 2], floor, floor + (wide if wide < 9 else slots)) for i in range(n)))]
+        for i in range(n):
+            block += [transfer(i, 'metadata'), *(transfer(i, 'data', 10 * at + 5, 5) for at in range(floor + spare + 2))]
+        block.append(words('slots', 2 * slots + 2))
+        # Closes the first hole of each and lets each of the others try.
+        for i in range(n):
+            block += [transfer(i, 'data', 0, 5), *(transfer((i + j) % n, 'data', 1000 + 10 * i, 1) for j in range(1, n)),
+                      words('slots', 2 * slots + 2)]
+        yield [*block, *(transfer(i, 'eof', 5000) for i in range(n)), *(transfer(i, 'show') for i in range(n))]
+
+
+def pool_sounders(rng):
+    """Two sounders in one pass: the first with many holes, up to all slots that the other's floor leaves and its limit allows; the other
+    comes late, and is never refused below its floor; S of 4 to 400, both orders, both widths."""
+    for slots, share, first, late in shuffled(rng, (4, 10, 40, 400), (1, 2, 4), (0, 1), (False, True)):
+        floor = max(1, slots // (2 * share))
+        groups = [(rng.choice(WIDTHS), 0, rng.choice((slots, slots - floor, slots - floor - 1))), (rng.choice(WIDTHS), floor, rng.choice((floor, slots)))]
+        many, few = (0, 1) if first == 0 else (1, 0)
+        block = [pool(slots, *(groups if first == 0 else groups[::-1])), transfer(many, 'metadata')]
+        if not late:
+            block.append(transfer(few, 'metadata'))
+        for at in range(min(slots + 3, 90)):
+            block.append(transfer(many, 'data', 100 * at + 50, rng.randint(1, 50)))
+        if slots > 90:
+            pairs, progress = holes(slots - floor)
+            block += set_pool([(pairs, progress, 'known', 'open') if i == many else ([], 0, 'known', 'open') for i in range(2)])
+            block.append(transfer(many, 'data', progress + 1, 1))
+        block += [transfer(few, 'data', 7, 3), transfer(few, 'metadata')]
+        for at in range(min(floor + 3, 60)):
+            block.append(transfer(few, 'data', 10 * at + 20, 5))
+        yield [*block, transfer(0, 'missing'), transfer(1, 'missing'), transfer(many, 'data', 0, 100), transfer(few, 'data', 5000, 5),
+               transfer(many, 'data', 99999, 1), transfer(0, 'show'), transfer(1, 'show'), words('slots', min(8200, 2 * slots + 2)),
+               *(transfer(i, 'nak 1 1 1 7 2 normal 200 0 16 3200') for i in (0, 1))]
+
+
+# What can be wrong with one transfer's record: 10 of each kind, 8, 12, two of them at once; and nothing.
+POOL_RECORDS = [([(12, 18), (30, 40)], 45, 'known', 'open'), ([(0, 45)], 45, 'missing', 'open'), ([(12, 18), (30, 45)], 45, 'known', 45),
+                ([(12, 18)], 45, 'known', 44), ([(0, 45)], 45, 'missing', 46), ([(0, 44)], 45, 'missing', 'open'), ([], 45, 'missing', 'open'),
+                ([(12, NARROW + 1)], NARROW + 1, 'known', 'open'), ([(12, NARROW + 1)], 45, 'known', 'open'), ([(12, 18)], NARROW + 1, 'known', 'open'),
+                ([(12, 18)], NARROW, 'known', 'open'), ([(12, NARROW)], NARROW, 'known', 'open'),
+                ([(12, 18), (18, 30)], 45, 'known', 'open'), ([(30, 40), (12, 18)], 45, 'known', 'open'), ([(12, 12)], 45, 'known', 'open'),
+                ([(12, 18), (30, 46)], 45, 'known', 'open'), ([(12, 18), (30, 46)], 45, 'known', 45), ([(30, 50), (12, 18)], 45, 'known', 'open'),
+                ([(12, 18), (30, 50)], 45, 'known', 40), ([(18, 12)], 45, 'known', 'open')]
+POOL_EVENTS = [('data', 46, 1), ('data', 14, 1), ('data', 0, 0), ('data', TOP, 1), ('data', 0, NARROW + 1), ('data', 0, 99), ('eof', 50), ('eof', 45), ('eof', 3),
+               ('eof', NARROW + 1)]
+POOL_QUERIES = [('held', 0, 5), ('held', 5, 5), ('held', 9, 4), ('held', 13, 20), ('map', 9), ('map', 200), ('nak 1 1 1 7 2 normal 64 0 2 128',),
+                ('nak 0 1 1 7 2 normal 64 0 2 128',), ('nak 1 1 1 7 2 large 23 9 17 0',)]
+
+
+def pool_checks(rng):
+    """The order of the checks in a pool of three: 23, then 10 over every transfer, then 8 and 12 at the one named, then those of the call:
+    each call of a transfer that is sound or fails 10, 8 or 12, while another is sound or fails them; records set by poke and load; full and
+    with room, both widths: every answer of every call, 10 of another transfer, and no 8 or 12 of another."""
+    sound = POOL_RECORDS[0]
+    pairs = [pair for record in POOL_RECORDS for pair in ((record, sound), (sound, record))]
+    every = shuffled(rng, pairs, ((0, 2), (1, 0)), WIDTHS, WIDTHS)
+    every += shuffled(rng, itertools.product(POOL_RECORDS, repeat=2), ((0, 1), (2, 0), (1, 2)), WIDTHS, WIDTHS)
+    for (ours, other), (at, beside), *widths in every:
+        records, groups = [([(1, 2)], 5, 'known', 'open')] * 3, [('wide', 0, 9)] * 3
+        records[at], records[beside] = ours, other
+        held, floor = sum(len(pairs) for pairs, *_ in records), rng.choice((0, 1))
+        groups[at], groups[beside] = (widths[0], floor, rng.choice((max(floor, len(ours[0])), 9))), (widths[1], 0, 9)
+        block = [pool(held + rng.choice((0, 0, 1, 2)), *groups), *set_pool(records)]
+        block += [transfer(at, *call) for call in rng.sample(POOL_QUERIES, 4)] + [transfer(at, 'missing')]
+        for event in (*rng.sample(POOL_EVENTS, 2), ('metadata',)):
+            block += [*set_pool(records), transfer(at, *event), words('slots', 2 * held + 2)]
+        yield block
+
+
+def pool_counts(rng):
+    """Counts set by load that no list of the pool can have, at the one named and at another: above the limit, above S, sums above S by held
+    and by floors, 2^63 and 2^64 - 1 twice; lists of odd and other lengths lent: 10, 23, and what `for I show` shows of them."""
+    for slots, groups in shuffled(rng, (0, 1, 3, 6), ([(0, 9), (0, 9)], [(1, 2), (2, 3)], [(0, 3), (3, 3)], [(0, TOP), (0, TOP), (1, 1)])):
+        block = [pool(slots, *((rng.choice(WIDTHS), *group) for group in groups)), words('poke', 0, *range(1, 30))]
+        for _ in range(14):
+            i = rng.randrange(len(groups))
+            count = rng.choice((0, 1, 2, 2, 3, 4, 4096, 4097, 4100, 4101, 2**32, 2**63, TOP))
+            block += [transfer(i, 'load', 99, 'known', count, 'open')]
+            if rng.random() < 0.4:
+                block.append(words('lend', rng.choice((0, 1, 2 * slots, 2 * slots, 2 * slots + 1, 2 * slots - 1 if slots else 0, 8191, 8192, 8193, 8194, 8200))))
+            call = rng.choice((('missing',), ('data', 50, 1), ('metadata',), ('eof', 99), ('map', 5)))
+            block += [transfer(j, *call) for j in range(len(groups))]
+            if count < 5 or rng.random() < 0.1:
+                block += [transfer(j, 'show') for j in range(len(groups) + 1)]
+        yield block
+
+
+def pool_settings(rng):
+    """Pools of none to nine transfers, floors above limits and floors that sum to S, to more, and past 64 bits, S of 0 to 4,100: 23 of every
+    call for each transfer and for one that there is none of, before 10; each beside the same with good settings."""
+    tried = [(('missing',),), (('data', 5, 1),), (('metadata',),), (('eof', 9),), (('held', 0, 1),), (('map', 3),),
+             (('nak 1 1 1 7 2 normal 64 0 1 64',),)]
+    cases = [(9, [(0, 1)] * n) for n in range(10)] + [(9, [(1, 1)] * n) for n in (8, 9)]
+    cases += [(slots, [(2, 9), (3, 9)]) for slots in (4, 5, 6)] + [(slots, [(4, 9)]) for slots in (3, 4)]
+    cases += [(9, [(1, 0)]), (9, [(0, 9), (5, 4)]), (9, [(5, 4), (0, 9)]), (9, [(TOP, 1)]), (9, [(2**63, TOP), (2**63, TOP)]), (9, [(TOP, TOP), (1, 1)]),
+              (9, [(TOP, TOP), (TOP, TOP), (2, 2)]), (9, [(2**32, TOP), (2**32, TOP)]), (9, [(2**62, TOP)] * 4), (0, [(0, 0)]), (0, [(0, 5)]),
+              (4096, [(4096, 4096)]), (4096, [(4095, TOP), (2, TOP)]), (4097, [(4097, 4097)]), (4097, [(0, 9)]), (4100, [(0, 9)]), (4100, [(4101, TOP)]),
+              (4096, [(0, 9)])]
+    for (slots, groups), calls in shuffled(rng, cases, tried):
+        block = [pool(slots, *((rng.choice(WIDTHS), *group) for group in groups))]
+        for i in sorted({0, len(groups) - 1, len(groups), len(groups) + 1, 7, 8, TOP} - {-1}):
+            block += [transfer(i, *call) for call in calls]
+            block += [transfer(i, 'show'), transfer(i, 'load', 3, 'known', 0, 'open'), transfer(i, 'show')]
+        yield block
+
+
+def pool_slots(rng):
+    """Pools whose slots hold other numbers: slots that the whole list gives up hold (0, 0), those past both counts stay, and a refusal
+    changes none; the first, a middle and the last of one to four transfers, events that make none, one, two and three ranges less, or one
+    more."""
+    for n, at, held in shuffled(rng, range(1, 5), range(4), (1, 3)):
+        if at >= n:
+            continue
+        records = [(*holes(rng.choice((0, 1, held))), 'known', 'open') for _ in range(n)]
+        records[at] = *holes(held), 'known', 'open'
+        total = sum(len(pairs) for pairs, *_ in records)
+        for room, event in itertools.product((0, 1, 2), (('data', 0, 10 * held), ('data', 2, 6), ('data', 4, 1), ('data', 10 * held + 5, 1),
+                                                         ('data', 0, 10 * held - 3),
+                                                         ('eof', 10 * held), ('eof', 10 * held + 9), ('eof', 3), ('metadata',))):
+            yield [pool(total + room, *[('wide', 0, 9)] * n), words('poke', 2 * total, 91, 92, 93, 94, 95, 96), *set_pool(records),
+                   words('slots', 2 * total + 6), transfer(at, *event), words('slots', 2 * total + 6), transfer(at, 'show')]
+
+
+def pool_wide_lists(rng):
+    """Pools of 1,000, 4,095 and 4,096 slots, full and with one free, of two and of eight transfers: a gap more and a split at the first, a middle
+    and the last, where all ranges behind move; data across all of one, then as many again."""
+    for slots, n, room in shuffled(rng, (1000, 4095, 4096), (2, 8), (0, 1)):
+        counts = [(slots - room) // n] * (n - 1)
+        counts.append(slots - room - sum(counts))
+        records = [(*holes(count), 'known', 'open') for count in counts]
+        block = [pool(slots, *((WIDTHS[i % 2], 0, 4096) for i in range(n))), *set_pool(records)]
+        for i in (0, n // 2, n - 1):
+            front = records[i][1]
+            block += [transfer(i, 'data', front + 5, 1), transfer(i, 'data', 4, 1), transfer(i, 'data', 2, 6), transfer((i + 1) % n, 'data', 14, 1),
+                      transfer(i, 'missing')]
+        block += [transfer(0, 'data', 0, records[0][1]), transfer(1, 'eof', 99999), transfer(0, 'show'), words('slots', min(8200, 2 * slots + 2))]
+        yield block
+
+
+def pool_links(rng):
+    """Sequences of a pool's transfers under both editions, both flags, with and without a trailer, metadata known and missing, with each
+    fault of the sequence: sent, 6, 7, 11, 13, 14, 15, 20; the link through `pool` and back through `new`."""
+    for edition, trailer in shuffled(rng, EDITIONS, TRAILERS):
+        block = ['new wide 4', link(edition, trailer), pool(9, ('wide', 0, 9), ('narrow', 1, 4), ('wide', 0, 2)),
+                 *set_pool([([(5, 9), (20, 30)], 40, 'known', 'open'), ([(0, 40)], 40, 'missing', 40), ([(5, 2**40)], 2**40, 'known', 'open')]), *LINKED[:5]]
+        for i, flag, ident in itertools.product(range(4), FLAGS, ([1, 1, 1, 7, 2], [2, 3, 1, 7, 2], [0, 1, 1, 7, 2])):
+            for largest, cursor, budget, less in ((64, 0, 4, 0), (26, 0, 16, 0), (42, 1, 2, 0), (23, 0, 2, 0), (4097, 0, 1, 0), (64, 9, 1, 0), (64, 0, 17, 0),
+                                                  (64, 0, 2, 1)):
+                block.append(transfer(i, 'nak', *ident, flag, largest, cursor, budget, max(0, min(budget, 16) * min(largest, 4096) - less)))
+        yield [*block, 'new narrow 4', *LINKED, pool(1, ('wide', 0, 1)), *LINKED[:5], link('newer')]
+
+
+NO_POOLS = ['pool', 'pool x', 'pool 3 wide', 'pool 3 wide 0', 'pool 3 wide 0 2 wide', 'pool 3 wide 0 2 wide 0', 'pool 3 tall 0 2', 'pool 3 Wide 0 2',
+            'pool 3 wide -1 2', 'pool 3 wide 0 x', 'pool 3 wide 0 18446744073709551616', 'pool 4101', 'pool 4101 wide 0 2', 'pool -1', 'Pool 3', 'pools 3',
+            'pool wide 0 2', 'pool 3' + ' wide 0 1' * 10, 'pool 3 0 2 wide', 'pool 18446744073709551615', 'pool 3 narrow 0 1 pairs 0 1', 'pool 3,wide 0 1']
+NO_FORS = ['for', 'for 0', 'for x missing', 'for -1 missing', 'for missing', 'for 0 missing 0', 'for 0 data 1', 'for 0 data 1 2 3', 'for 0 data x 1',
+           'for 9 data x 1',
+           'for 0 metadata 1', 'for 0 eof', 'for 0 eof x', 'for 0 held 1', 'for 0 map', 'for 0 map 0', 'for 0 map 201', 'for 9 map 201', 'for 0 load 1 known 1',
+           'for 0 load 1 maybe 1 open', 'for 0 load 1 known 1 shut', 'for 0 show 1', 'for 0 nak 1 1 1 7 2 normal 64 0 1', 'for 0 nak 1 1 1 7 2 odd 64 0 1 64',
+           'for 0 nak 1 1 1 7 2 normal 64 0 1 66001', 'for 0 add 1 2', 'for 0 insert 1 2', 'for 0 remove 1 2', 'for 0 coalesce', 'for 0 within 1 2',
+           'for 0 octets normal 0', 'for 0 lend 4', 'for 0 poke 0 1', 'for 0 slots 4', 'for 0 for 0 missing', 'for 0 new wide 3', 'for 0 pool 3',
+           'for 0 link newer plain',
+           'for 0 read', 'for 0 write 1 1 1 7 2 normal 0 9 16', 'for 0 bogus', 'For 0 missing', 'for 18446744073709551616 missing', 'for 0 Missing',
+           'for 2 load 0 known 0 open', 'for 2 show', 'for 18446744073709551615 show', 'for 0x0 missing']
+# Commands of one reception, which are errors in a pool without `for`.
+SINGLE = ['data 0 1', 'metadata', 'eof 9', 'show', 'load 7 known 0 open', 'nak 1 1 1 7 2 normal 64 0 1 64', 'held 1 2', 'missing', 'map 7', 'add 1 2', 'insert 1 2',
+          'remove 1 2', 'coalesce', 'within 1 2', 'octets normal 8']
+
+
+def pool_words(rng):
+    """Lines that are no `pool` and no `for`, commands of one reception in a pool, and `for` outside one: errors that change nothing; lend, poke
+    and slots of the pool's list; more spaces: ok; `new` and `pool` again, which begin afresh."""
+    state = [transfer(0, 'show'), transfer(1, 'show'), 'slots 8']
+    begin = [pool(3, ('wide', 0, 3), ('narrow', 1, 2)), transfer(0, 'data', 5, 5), transfer(1, 'metadata'), transfer(1, 'data', 7, 1)]
+    for line in (*NO_POOLS, *NO_FORS, *SINGLE, 'lend 8201', 'lend', 'poke 8199 1 2', 'slots 8201', 'bogus', '  pool   3   wide  0  3   narrow 1  2 ',
+                 '  for   1   data   9   1  ', 'lend 3', 'lend 8200', 'lend 6', 'poke 0 1 2', 'poke 8199 1', 'slots 8200', 'pool 0', 'pool 4100',
+                 'pool 4100 narrow 0 5',
+                 'pool 3' + ' wide 0 1' * 9, 'new wide 3', 'new narrow 3', 'new wide 4097', '', '# pool 3', 'read', 'read 2800', 'write 1 1 1 7 2 normal 0 9 16'):
+        yield [*begin, *state, line, *state, transfer(0, 'data', 20, 1), transfer(1, 'missing'), *state, 'show', 'missing']
+        yield ['new wide 3', 'data 5 5', line, 'show', 'data 9 3', 'show', 'slots 6']
+
+
 # The deferred NAK (C-22).
 
 # (pairs, progress, mark, size) of records of every kind that a timer can meet: the size open and known, with nothing missing, holes, and the metadata
@@ -1598,14 +1883,16 @@ NO_TIMERS = ['defer', 'defer 3', 'defer 3 2 1', 'defer x 2', 'defer 3 x', 'defer
              'defer 3 18446744073709551616',
              'tick', 'tick 0', 'tick 1000001', 'tick x', 'tick -1', 'tick 1 1', 'tick 18446744073709551615', 'Tick 1', 'ticks 1', 'tick 00000000000000000000',
              'reset 1',
-             'Reset', 'resets', 'timer 1', 'Timer', 'timers', 'tick 000000000000000000001', 'new wide 4097']
+             'Reset', 'resets', 'timer 1', 'Timer', 'timers', 'tick 000000000000000000001', 'new wide 4097', 'pool x', 'pool 3 wide 0', 'for 0 timer',
+             'for 0 tick 1',
+             'for 0 reset', 'for 0 defer 3 2']
 
 
 def timer_words(rng):
-    """Lines that are no command of a timer: errors that change nothing, with and without a timer; `new`, which takes it away; other commands, which leave it;
-    d and limits at and past their ends: ok, 25; more spaces; ticks of a million."""
+    """Lines that are no command of a timer: errors that change nothing, with and without a timer; `new` and `pool`, which take it away; in a pool all four are
+    errors; d and limits at and past their ends: ok, 25; more spaces; ticks of a million."""
     begin = ['new wide 4', 'defer 3 2', 'metadata', 'eof 40', 'tick 4', 'tick 1']
-    for line in (*NO_TIMERS, 'new wide 4', 'new pairs narrow 4', '  defer   7   9 ', '  tick   1 ', '  reset ', '  timer  ',
+    for line in (*NO_TIMERS, 'new wide 4', 'new pairs narrow 4', 'pool 3 wide 0 3', 'pool 0', '  defer   7   9 ', '  tick   1 ', '  reset ', '  timer  ',
                  'tick 1000000',
                  'tick 00000000000000000001', 'load 3 known 0 3', 'lend 8', 'poke 0 1 2', 'slots 2', 'add 50 60', 'insert 50 60', 'remove 0 40', 'coalesce',
                  'link newer plain',
@@ -1700,8 +1987,9 @@ PDUS = [pdus_metadata, pdus_metadata_checks, pdus_lengths, pdus_limits, pdus_wri
 SEQUENCES = [sequences_runs, sequences_any]
 LINKS = [link_octets, link_writes, link_reads, link_sequences, link_kept, link_words, link_history]
 CRCS = [crc_trailers, crc_bits, crc_checks, crc_flags, crc_writes, crc_sequences]
+POOLS = [pool_small, pool_checks, pool_settings, pool_full, pool_sounders, pool_counts, pool_slots, pool_links, pool_words, pool_history, pool_wide_lists]
 TIMERS = [timer_states, timer_ticks, timer_resets, timer_late, timer_words, timer_history]
-REST = [*EVENTS, *QUERIES, *PDUS, *SEQUENCES, *LINKS, *CRCS, *TIMERS, nonsense]
+REST = [*EVENTS, *QUERIES, *PDUS, *SEQUENCES, *LINKS, *CRCS, *POOLS, *TIMERS, nonsense]
 
 # What a removal did (document 02, C-16), and by how many ranges the list grew.
 GREW = {'whole': -1, 'left': 0, 'right': 0, 'split': 1}
@@ -1828,6 +2116,32 @@ PLACES = {'refused 14 two below one', 'refused 14 below one', 'sent at one', 'se
 CRC_KINDS = {name: {f'{what} {flag} {edition}' for what in all_ for edition, flag in FORMS}
              for name, all_ in (('read', TRAILED), ('write', TOTALS), ('nak', PLACES))}
 
+# How an event that makes one range more meets a pool (C-21): below its floor, or at or above it and below its limit, or at its limit; all slots
+# held or kept free for others, or some free. And events that make none, where all is taken.
+ROOMS = [('below its floor', 'all taken', True), ('below its floor', 'some free', True), ('from its floor on', 'some free', True),
+         ('from its floor on', 'all taken', False), ('at its limit', 'some free', False), ('at its limit', 'all taken', False)]
+def grown(*answers):
+    """The kinds of events with these answers, and those that are refused for room."""
+    taken = {f'{said} {where}, {slots}, {width}' for where, slots, fine in ROOMS for said in (answers if fine else ['refused 1']) for width in WIDTHS}
+    return taken | {f'{said} no more, all taken, {width}' for said in answers for width in WIDTHS}
+
+
+# Why 23 and 10 are refused, where the settings and counts tell.
+SETTINGS = {f'refused 23 for {why}' for why in ('nine', 'a floor', 'the floors', 'none of')}
+SETTINGS |= {f'refused 10 for {why}' for why in ('an odd list', 'a long list', 'a limit', 'the sum', 'a record')}
+POOLED = {
+    'pool': {'ok', 'error'},
+    'for data': grown('noticed', 'kept') | SETTINGS | {'noticed', 'kept', 1, 2, 4, 8, 9, 10, 12, 22, 23, 'error'},
+    'for eof': grown('ended') | SETTINGS | {'ended', 1, 4, 8, 10, 12, 22, 23, 'error'},
+    'for metadata': SETTINGS | {'known', 8, 10, 12, 19, 23, 'error'},
+    'for held': {'yes', 'no', 2, 3, 8, 10, 12, 23, 'error'},
+    'for missing': SETTINGS | {'missing', 8, 10, 12, 23, 'error'},
+    'for map': {'map', 8, 10, 12, 23, 'error'},
+    'for nak': {'pdu', 'sent', 6, 7, 8, 10, 11, 12, 13, 14, 15, 20, 23, 'error'},
+    'for load': {'ok', 'error'},
+    'for show': {'wide', 'narrow', 'error'},
+}
+
 # What an event or a reset does to a timer (C-22): from its state before to its state behind, `anew` where it is started again.
 STARTED = {
     'data': {'kept idle to idle', 'kept idle to active', 'kept active to active', 'kept active to active anew', 'kept active to idle', 'kept deaf to deaf',
@@ -1865,6 +2179,7 @@ REACH = {
     'read': asked('nak', 'refused 2', 'refused 3') | LINKED_KINDS['read'] | CRC_KINDS['read'] | {'nak', 2, 3, 14, 15, 16, 17, 18, 21},
     'nak': UNEQUAL | LINKED_KINDS['nak'] | CRC_KINDS['nak'] | {'pdu', 'sent', 6, 7, 8, 10, 11, 12, 13, 14, 15, 20},
     'link': LINKED_KINDS['link'] | {'ok', 'error'},
+    **POOLED,
     **TIMED,
 }
 RUST_REACH = {
@@ -2128,6 +2443,48 @@ class Link:
             self.last = line, self.edition, self.trailer, said
 
 
+class Pooled:
+    """A pool while lines are gone through: its settings, and how many ranges each transfer holds."""
+
+    def __init__(self):
+        self.groups, self.held, self.length = [], [], 0
+
+    def taken(self):
+        return sum(max(held, floor) for held, (_, floor, _) in zip(self.held, self.groups))
+
+    def why(self, number):
+        """Why a call was refused by 23 or 10, as the tables above name it: the first that is found."""
+        slots = self.length // 2
+        if number == 23:
+            return ('nine' if len(self.groups) > 8 else 'a floor' if any(floor > limit for _, floor, limit in self.groups)
+                    else 'the floors' if sum(floor for _, floor, _ in self.groups) > slots else 'none of')
+        return ('an odd list' if self.length % 2 else 'a long list' if slots > 4096
+                else 'a limit' if any(held > limit for held, (*_, limit) in zip(self.held, self.groups))
+                else 'the sum' if self.taken() > slots else 'a record')
+
+    def met(self, parts, answer):
+        """The kinds of an answer to a line of a pool, as the tables above name them."""
+        if parts[0] == 'pool' and answer == ['ok']:
+            self.groups = [(width, int(floor), int(limit)) for width, floor, limit in zip(parts[2::3], parts[3::3], parts[4::3])]
+            self.held, self.length = [0] * len(self.groups), 2 * int(parts[1])
+        elif parts[0] == 'lend' and answer == ['ok']:
+            self.length = int(parts[1])
+        elif parts[0] == 'for' and len(parts) > 2 and not answer[0].startswith('error '):
+            which, said = int(parts[1]), answer[0].split(' ')
+            if parts[2] == 'load':
+                self.held[which] = int(parts[5])
+            if said[0] == 'refused' and said[1] in ('10', '23'):
+                yield f'refused {said[1]} for {self.why(int(said[1]))}'
+            elif said[0] in ('noticed', 'kept', 'ended') or said[:2] == ['refused', '1']:
+                width, floor, limit = self.groups[which]
+                before, slots = self.held[which], 'all taken' if self.taken() == self.length // 2 else 'some free'
+                where = 'at its limit' if before >= limit else 'below its floor' if before < floor else 'from its floor on'
+                if said[0] != 'refused':
+                    self.held[which] = int(said[1])
+                    where = where if self.held[which] > before else 'no more'
+                yield f'{saying(answer[0])} {where}, {slots}, {width}'
+
+
 class Started:
     """The timer while lines are gone through, as it was shown last, and the event or reset that was told to it since."""
 
@@ -2158,10 +2515,14 @@ def met(lines, expected):
     """(command, kind) of each answer to these lines; of a removal with the store's width, of an insert, an event or a sequence
     also how it met the record where the line before showed that, of a PDU how its metadata request stands; of a PDU and a sequence
     also what the link made of it."""
-    width, shown, link_now, started = 'wide', None, Link(), Started()
+    width, shown, link_now, pooled, started = 'wide', None, Link(), Pooled(), Started()
     for at, answer in expected:
         parts = lines[at - 1].split() or ['']
+        hows = list(pooled.met(parts, answer))
         yield from started.met(parts, answer)
+        if parts[0] == 'for' and len(parts) > 2:
+            yield from ((f'for {parts[2]}', how) for how in (*hows, *map(kind, answer)))
+            continue
         yield from ((parts[0], how) for how in link_now.met(lines[at - 1], parts, answer))
         if parts[0] == 'new' and answer == ['ok']:
             width = parts[-2]

@@ -2,7 +2,7 @@
 """Small cases whose answers were worked out by hand from the papers, none from a program: each line of a script with its answer, and
 the sentence that it rests on. The model must give just these.
 
-    test_papers.py [NAME…]      all cases, or those of these requests (deferred)
+    test_papers.py [NAME…]      all cases, or those of these requests (pool, deferred)
 
 Ends with status 0 only if all agree.
 """
@@ -20,6 +20,188 @@ def case(name, *told):
 
 
 # D is document 02, R a reading of it (docs/DECISIONS.md), K the console's page (docs/CONSOLE.md).
+
+# C-21: several transfers, one pool.
+POOL = [
+    case('fresh transfers, each with its own width',
+         # K: "makes fresh transfers over one list of S ranges"; "for I show is wide|narrow FLOOR LIMIT COUNT PROGRESS known|missing open|SIZE".
+         'pool 4 wide 1 3 narrow 0 2 -> ok',
+         'for 0 show -> wide 1 3 0 0 missing open',
+         'for 1 show -> narrow 0 2 0 0 missing open',
+         'slots 8 -> slots 0 0 0 0 0 0 0 0'),
+    case('ranges back to back in order, freed slots serve any',
+         # D: "The pool's list holds the transfers' ranges back to back in order, so freed slots serve any".
+         'pool 3 wide 0 3 wide 0 3 -> ok',
+         'for 0 metadata -> known', 'for 1 metadata -> known',
+         'for 1 data 10 10 -> kept 1 20', 'slots 6 -> slots 0 10 0 0 0 0',
+         # Transfer 0's range comes in front of transfer 1's.
+         'for 0 data 5 5 -> kept 1 10', 'slots 6 -> slots 0 5 0 10 0 0',
+         'for 0 data 20 5 -> kept 2 25', 'slots 6 -> slots 0 5 10 20 0 10',
+         # 3 slots held, no floors: the sum is S.
+         'for 1 data 30 5 -> refused 1',
+         # One of transfer 0's is freed (0-5 comes): the slot serves transfer 1; the list moves up, the slot given up is (0, 0).
+         'for 0 data 0 5 -> kept 1 25', 'slots 6 -> slots 10 20 0 10 0 0',
+         'for 1 data 30 5 -> kept 2 35', 'slots 6 -> slots 10 20 0 10 20 30'),
+    case('a limit is never passed, however many slots are free',
+         # D: "refused StoreFull exactly if m + 1 passes the limit".
+         'pool 9 wide 0 1 -> ok', 'for 0 metadata -> known', 'for 0 data 1 1 -> kept 1 2', 'for 0 data 3 1 -> refused 1',
+         # R: "An event that lowers or keeps the number of ranges is never refused for room": progress on, no gap.
+         'for 0 data 2 9 -> kept 1 11', 'for 0 data 0 1 -> kept 0 11', 'for 0 data 12 1 -> kept 1 13'),
+    case('a limit of 0 holds no range, and data without a gap is fine',
+         # D: "refused StoreFull exactly if m + 1 passes the limit": 1 passes 0. R: what keeps the number of ranges is never refused for room.
+         'pool 9 wide 0 0 -> ok', 'for 0 data 0 1 -> refused 1', 'for 0 eof 1 -> refused 1', 'for 0 metadata -> known',
+         'for 0 data 0 9 -> kept 0 9', 'for 0 data 10 1 -> refused 1', 'for 0 eof 10 -> refused 1', 'for 0 eof 9 -> ended 0 9'),
+    case('below its floor a transfer is never refused for room',
+         # D: "if m is at or above the floor and the sum ... is S". Floors 0 and 2, S = 3: transfer 0 may take one.
+         'pool 3 wide 0 3 wide 2 3 -> ok', 'for 0 metadata -> known', 'for 1 metadata -> known',
+         'for 0 data 1 1 -> kept 1 2',
+         # The sum is 1 + 2 = 3 = S and transfer 0 is above its floor.
+         'for 0 data 3 1 -> refused 1',
+         # Transfer 1 holds none: below its floor of 2, twice.
+         'for 1 data 1 1 -> kept 1 2', 'for 1 data 3 1 -> kept 2 4',
+         # Now it is at its floor and the sum is S.
+         'for 1 data 5 1 -> refused 1'),
+    case('the sum counts the larger of held and floor',
+         # D: "the sum over all transfers of the larger of held and floor is S".
+         # S = 5; transfer 0 holds 1 of a floor of 3: the sum is 3 + held of the other, so the other gets 2.
+         'pool 5 wide 3 4 wide 0 5 -> ok', 'for 0 data 0 4 -> noticed 1 4', 'for 1 metadata -> known',
+         'for 1 data 1 1 -> kept 1 2', 'for 1 data 3 1 -> kept 2 4', 'for 1 data 5 1 -> refused 1'),
+    case('a transfer at its floor may grow while the sum is below S',
+         # D: "if m is at or above the floor and the sum … is S": both are needed.
+         'pool 3 wide 1 3 wide 1 1 -> ok', 'for 0 metadata -> known', 'for 0 data 1 1 -> kept 1 2',
+         # The sum is 1 + 1 = 2, below 3.
+         'for 0 data 3 1 -> kept 2 4', 'for 0 data 5 1 -> refused 1'),
+    case('23: a floor above its limit, whoever is named',
+         # D: "bad settings or an unknown transfer are refusal 23, first".
+         'pool 9 wide 0 9 wide 3 2 -> ok', 'for 0 data 0 1 -> refused 23', 'for 1 data 0 1 -> refused 23', 'for 0 missing -> refused 23',
+         # K: set and shown unchecked.
+         'for 1 show -> wide 3 2 0 0 missing open'),
+    case('23: floors that sum to more than S; just S is fine',
+         # D: "floors summing to at most S".
+         'pool 4 wide 2 9 wide 3 9 -> ok', 'for 0 data 0 1 -> refused 23', 'pool 5 wide 2 9 wide 3 9 -> ok', 'for 0 data 0 1 -> noticed 1 1'),
+    case('23: the sum of the floors must not overflow (R)',
+         # R: "floors summing to more than S (the sum must not overflow)". 2^64 - 1 + 1 and 2^63 + 2^63 are 2^64.
+         'pool 4 wide 18446744073709551615 18446744073709551615 wide 1 1 -> ok', 'for 0 missing -> refused 23',
+         'pool 4 wide 9223372036854775808 18446744073709551615 wide 9223372036854775808 18446744073709551615 -> ok', 'for 0 missing -> refused 23'),
+    case('23: a transfer that there is none of',
+         'pool 4 wide 1 1 -> ok', 'for 1 data 0 1 -> refused 23', 'for 1 metadata -> refused 23', 'for 1 eof 1 -> refused 23',
+         'for 1 nak 1 1 1 7 2 normal 64 0 1 64 -> refused 23', 'for 1 held 0 1 -> refused 23', 'for 1 missing -> refused 23',
+         'for 1 map 9 -> refused 23', 'for 18446744073709551615 missing -> refused 23',
+         # K: "For a transfer that there is none of, load and show are errors".
+         'for 1 load 0 known 0 open -> error 10', 'for 1 show -> error 11', 'for 0 show -> wide 1 1 0 0 missing open'),
+    case('23: no transfer at all (K: none to nine groups)',
+         # R: "or a transfer that there is none of".
+         'pool 4 -> ok', 'for 0 missing -> refused 23', 'for 0 show -> error 3', 'slots 2 -> slots 0 0', 'lend 3 -> ok', 'for 0 missing -> refused 23'),
+    case('23: nine transfers',
+         # K: "A ninth group makes nine transfers, which every call answers with 23; for it too load and show are errors."
+         'pool 9' + ' wide 1 1' * 9 + ' -> ok', 'for 0 missing -> refused 23', 'for 8 missing -> refused 23', 'for 8 show -> error 4',
+         'for 8 load 0 known 0 open -> error 5', 'for 7 show -> wide 1 1 0 0 missing open',
+         'pool 9' + ' wide 1 1' * 8 + ' -> ok', 'for 7 missing -> missing 0', 'for 8 missing -> refused 23',
+         'pool 9' + ' wide 1 1' * 10 + ' -> error 10', 'for 7 missing -> missing 0'),
+    case('23 before 10',
+         # D: "refusal 23, first". R: "Then 10". An odd list of 3 numbers has S = 1.
+         'pool 2 wide 1 2 -> ok', 'lend 3 -> ok', 'for 0 missing -> refused 10', 'for 1 missing -> refused 23', 'lend 1 -> ok',
+         # S is now 0, below the floor of 1.
+         'for 0 missing -> refused 23'),
+    case('10: S above 4,096',
+         # D: "at most 4,096 (above that, 10)". R: S is half the list's length, rounded down; an odd list is 10.
+         'pool 4096 wide 0 1 -> ok', 'for 0 missing -> missing 0', 'pool 4097 wide 0 1 -> ok', 'for 0 missing -> refused 10',
+         'for 1 missing -> refused 23', 'pool 4100 wide 0 1 -> ok', 'for 0 missing -> refused 10', 'pool 4101 wide 0 1 -> error 8',
+         'lend 8192 -> ok', 'for 0 missing -> missing 0', 'lend 8193 -> ok', 'for 0 missing -> refused 10'),
+    case('10: held above the limit, and the sum above S',
+         # D: "held above limit, or that sum above S, is 10".
+         'pool 4 wide 0 1 wide 1 4 -> ok', 'poke 0 1 2 3 4 -> ok', 'for 0 load 9 known 2 open -> ok', 'for 0 missing -> refused 10',
+         'for 1 missing -> refused 10', 'for 0 load 9 known 1 open -> ok', 'for 0 missing -> missing 1',
+         # 1 and 4: the sum is 5, S is 4.
+         'poke 0 1 2 1 2 3 4 5 6 7 8 -> ok', 'for 1 load 9 known 4 open -> ok', 'for 1 missing -> refused 10',
+         'for 1 load 9 known 3 open -> ok', 'for 1 missing -> missing 3',
+         # Held 1 of a floor of 1 and limit 4; the floor counts where held is below it: 4 slots, floor 1 held 0, and 4.
+         'pool 4 wide 1 4 wide 0 4 -> ok', 'poke 0 1 2 3 4 5 6 7 8 -> ok', 'for 1 load 9 known 4 open -> ok', 'for 1 missing -> refused 10',
+         'for 1 load 9 known 3 open -> ok', 'for 1 missing -> missing 3'),
+    case('10 looks at every transfer',
+         # D: "10 looks at every transfer, 8 and 12 at the one named". A waiting record whose list is not (0, progress).
+         'pool 4 wide 0 2 wide 0 2 -> ok', 'for 1 load 5 missing 0 open -> ok', 'for 0 data 0 1 -> refused 10', 'for 1 data 0 1 -> refused 10',
+         # A known size that is not progress.
+         'for 1 load 5 known 0 6 -> ok', 'for 0 metadata -> refused 10', 'for 1 load 5 known 0 5 -> ok', 'for 0 metadata -> known'),
+    case('10: the narrow limit of another transfer',
+         # R: 10 is "any record that would be 10 by itself"; "Each transfer has its own width".
+         'pool 4 wide 0 2 narrow 0 2 -> ok', 'for 1 load 4294967296 known 0 open -> ok', 'for 0 missing -> refused 10',
+         'for 1 load 4294967295 known 0 open -> ok', 'for 0 missing -> missing 0', 'for 1 load 4294967295 known 1 open -> ok',
+         'poke 0 5 4294967296 -> ok', 'for 0 missing -> refused 10', 'poke 0 5 4294967295 -> ok', 'for 0 missing -> missing 0',
+         # Each has its own width: the same number in the wide one's range is fine.
+         'poke 0 5 4294967296 7 8 -> ok', 'for 0 load 4294967296 known 1 open -> ok', 'for 0 missing -> missing 4294967291',
+         'for 1 missing -> missing 1'),
+    case('8 and 12 look at the one named',
+         # D: "10 looks at every transfer, 8 and 12 at the one named".
+         'pool 4 wide 0 2 wide 0 2 -> ok', 'poke 0 5 6 1 2 3 9 -> ok', 'for 0 load 9 known 2 open -> ok', 'for 1 load 8 known 1 open -> ok',
+         # Transfer 0: (5,6), (1,2) is not coalesced. Transfer 1: (3,9) ends above progress 8.
+         'for 0 missing -> refused 8', 'for 1 missing -> refused 12', 'for 0 metadata -> refused 8', 'for 1 data 0 1 -> refused 12',
+         'poke 0 1 2 5 6 -> ok', 'for 0 missing -> missing 2', 'for 1 missing -> refused 12'),
+    case('8 before 12, and the other transfer goes on',
+         'pool 4 wide 0 2 wide 0 2 -> ok', 'poke 0 5 20 1 20 3 4 -> ok', 'for 0 load 9 known 2 open -> ok', 'for 1 load 8 known 1 open -> ok',
+         'for 0 eof 9 -> refused 8', 'for 1 data 3 1 -> kept 0 8',
+         # R: the whole count falls from 3 to 2: the third slot is (0, 0), the damaged ranges stay as they were.
+         'slots 8 -> slots 5 20 1 20 0 0 0 0'),
+    case('slots follow the whole count; past both they stay (R)',
+         # R: "from the new whole count up to the old one they are (0, 0), past both they stay".
+         'pool 4 wide 0 4 wide 0 4 -> ok', 'poke 0 91 92 93 94 95 96 97 98 -> ok', 'for 0 metadata -> known', 'for 1 metadata -> known',
+         'for 1 data 4 4 -> kept 1 8', 'slots 8 -> slots 0 4 93 94 95 96 97 98',
+         'for 0 data 2 1 -> kept 1 3', 'slots 8 -> slots 0 2 0 4 95 96 97 98',
+         # Of (0, 2) octet 0 comes: (1, 2) stays, the count as before.
+         'for 0 data 0 1 -> kept 1 3', 'slots 8 -> slots 1 2 0 4 95 96 97 98',
+         'for 0 data 0 3 -> kept 0 3', 'slots 8 -> slots 0 4 0 0 95 96 97 98'),
+    case('the three events and their checks 2, 9, 4, 22, 19',
+         # R: "Each transfer has the three events". Their checks are those of one reception: data 2, 9, 4, 22, 1; EOF 4, 22, 1; metadata 19.
+         'pool 4 narrow 0 4 -> ok', 'for 0 data 5 0 -> refused 2', 'for 0 data 18446744073709551615 1 -> refused 9',
+         'for 0 data 4294967295 1 -> refused 4', 'for 0 eof 4294967296 -> refused 4', 'for 0 data 4 6 -> noticed 1 10', 'for 0 eof 9 -> refused 22',
+         'for 0 eof 12 -> ended 1 12', 'for 0 data 12 1 -> refused 22', 'for 0 metadata -> known', 'for 0 metadata -> refused 19',
+         'for 0 show -> narrow 0 4 1 12 known 12 0 12', 'for 0 data 4 2 -> kept 2 12', 'for 0 show -> narrow 0 4 2 12 known 12 0 4 6 12'),
+    case('held, missing and map of one transfer (R)',
+         # R: "`held` and the octets missing". Of 8 octets in 4 cells of 2, 4-6 is missing. K: `map` takes 1 to 200 cells.
+         'pool 4 wide 0 4 wide 0 4 -> ok', 'for 1 metadata -> known', 'for 1 data 0 4 -> kept 0 4', 'for 1 data 6 2 -> kept 1 8',
+         'for 1 held 0 4 -> yes', 'for 1 held 0 5 -> no', 'for 1 held 5 5 -> refused 2', 'for 1 held 5 4 -> refused 3 5 4', 'for 1 missing -> missing 2',
+         'for 1 map 4 -> map ##.#', 'for 0 missing -> missing 0', 'for 0 map 4 -> map ', 'for 0 held 0 1 -> no', 'for 0 map 0 -> error 14',
+         'for 0 map 201 -> error 15'),
+    case('the NAK sequence of one transfer',
+         # R: "its NAK sequence (checks 23, then as the sequence's)". H = 7, one request in 24 octets. Scope 0-8, request 4-6.
+         'pool 4 wide 0 4 wide 0 4 -> ok', 'for 1 metadata -> known', 'for 1 data 0 4 -> kept 0 4', 'for 1 data 6 2 -> kept 1 8',
+         'for 1 nak 1 1 1 7 2 normal 24 0 1 24 -> pdu 280011000107020800000000000000080000000400000006 / sent 1 24 1',
+         'for 1 nak 1 1 1 7 2 normal 23 0 1 24 -> refused 14', 'for 1 nak 0 1 1 7 2 normal 23 0 1 24 -> refused 13',
+         # Transfer 0 waits for its metadata and has noticed nothing: one request, (0, 0), in the scope 0-0.
+         'for 0 nak 1 1 1 7 2 normal 24 0 1 24 -> pdu 280011000107020800000000000000000000000000000000 / sent 1 24 1',
+         # The link is the console's: 08 in front under the older edition, where a large flag is 15.
+         'link older plain -> ok',
+         'for 1 nak 1 1 1 7 2 normal 24 0 1 24 -> pdu 080011000107020800000000000000080000000400000006 / sent 1 24 1',
+         'for 1 nak 1 1 1 7 2 large 40 0 1 40 -> refused 15'),
+    case('answers depend on the others only through the sum',
+         # D: "answers to one transfer depend on the others only through that sum".
+         # D, last sentence: another transfer's damage by 8 or 12, its data and its metadata change nothing for this one.
+         'pool 3 wide 0 2 wide 1 2 -> ok', 'for 0 metadata -> known', 'for 0 data 1 1 -> kept 1 2', 'for 1 data 0 9 -> noticed 1 9',
+         'for 0 data 3 1 -> kept 2 4', 'for 1 metadata -> known', 'for 1 data 4 1 -> refused 1', 'for 1 data 0 4 -> kept 1 9',
+         'for 0 show -> wide 0 2 2 4 known open 0 1 2 3', 'for 1 show -> wide 1 2 1 9 known open 4 9'),
+    case('in a pool, commands of one reception are errors; outside one, `for` is (K)',
+         'for 0 missing -> error 1', 'pool 2 wide 0 2 -> ok', 'data 0 1 -> error 3', 'metadata -> error 4', 'eof 1 -> error 5', 'show -> error 6',
+         'load 0 known 0 open -> error 7', 'nak 1 1 1 7 2 normal 24 0 1 24 -> error 8', 'held 0 1 -> error 9', 'missing -> error 10', 'map 3 -> error 11',
+         'add 1 2 -> error 12', 'insert 1 2 -> error 13', 'remove 1 2 -> error 14', 'coalesce -> error 15', 'within 1 2 -> error 16',
+         'octets normal 0 -> error 17', 'for 0 add 1 2 -> error 18', 'for 0 lend 4 -> error 19', 'for 0 for 0 missing -> error 20', 'for 0 -> error 21',
+         'for -> error 22', 'for x missing -> error 23', 'for 0 missing 1 -> error 24', 'for 0 data 1 -> error 25', 'for 0 slots 2 -> error 26',
+         'for 0 read -> error 27',
+         # K: "new, pool, link, write, read and surplus work in every kind of reception".
+         'write 1 1 1 7 2 normal 0 1000 24 100 200 -> pdu 280011000107020800000000000003e800000064000000c8', 'read -> refused 16',
+         'link newer plain -> ok', 'new wide 2 -> ok', 'missing -> missing 0', 'for 0 missing -> error 33'),
+    case('words of `pool`: an error changes nothing',
+         # K: "(S to 4,100; none to nine groups of three words)"; an error "changes nothing".
+         'pool 2 wide 0 2 -> ok', 'for 0 data 0 9 -> noticed 1 9', 'pool -> error 3', 'pool x -> error 4', 'pool 2 wide 0 -> error 5',
+         'pool 2 wide 0 2 3 -> error 6', 'pool 2 tall 0 2 -> error 7', 'pool 2 wide x 2 -> error 8', 'pool 2 wide 0 18446744073709551616 -> error 9',
+         'pool 4101 wide 0 2 -> error 10', 'for 0 show -> wide 0 2 1 9 missing open 0 9', 'pool 2 wide 0 2 -> ok', 'for 0 show -> wide 0 2 0 0 missing open',
+         'slots 2 -> slots 0 0'),
+    case('`for I show` with a count past the memory: the numbers within the first 8,200',
+         # K: "then its numbers in the pool's list (those within the first 8,200)".
+         'pool 2 wide 0 2 wide 0 2 -> ok', 'poke 8198 7 8 -> ok', 'for 0 load 0 known 4099 open -> ok', 'for 1 load 0 known 5 open -> ok',
+         # 4,099 ranges in front are 8,198 numbers: two of transfer 1's ten are left.
+         'for 1 show -> wide 0 2 5 0 known open 7 8', 'for 0 load 0 known 18446744073709551615 open -> ok', 'for 1 show -> wide 0 2 5 0 known open',
+         'for 0 missing -> refused 10'),
+]
 
 # C-22: the deferred NAK.
 HOLE = ('new wide 8 -> ok', 'metadata -> known', 'data 0 10 -> kept 0 10', 'data 20 10 -> kept 1 30')
@@ -141,10 +323,11 @@ DEFERRED = [
     case('ticks do not look at the record',
          # D: "Inputs are events and ticks"; of ticks no check is named.
          *HOLE, 'defer 2 1 -> ok', 'eof 30 -> ended 1 30', 'lend 3 -> ok', 'tick 2 -> ask 2', 'tick 2 -> limit 2', 'timer -> timer deaf 0 1'),
-    case('`new` takes it away; a line that is an error does not',
-         # K, of `new`: "a timer goes away". "`tick`, `reset` and `timer` are errors where there is no timer."
-         'timer -> error 1', 'tick 1 -> error 2', 'reset -> error 3', 'defer 3 2 -> ok', 'new wide 4097 -> error 5', 'timer -> timer idle 0 0',
-         'new wide 8 -> ok', 'timer -> error 8', 'tick 1 -> error 9', 'reset -> error 10', 'defer 3 2 -> ok', 'new pairs narrow 8 -> ok', 'timer -> error 13'),
+    case('`new` and `pool` take it away; a line that is an error does not',
+         # K, of `new` and `pool`: "a timer goes away". "`tick`, `reset` and `timer` are errors where there is no timer."
+         'timer -> error 1', 'tick 1 -> error 2', 'reset -> error 3', 'defer 3 2 -> ok', 'new wide 4097 -> error 5', 'pool x -> error 6', 'timer -> timer idle 0 0',
+         'new wide 8 -> ok', 'timer -> error 9', 'defer 3 2 -> ok', 'pool 3 wide 0 3 -> ok', 'timer -> error 12', 'defer 3 2 -> error 13', 'for 0 timer -> error 14',
+         'for 0 defer 3 2 -> error 15', 'reset -> error 16', 'tick 1 -> error 17', 'new wide 8 -> ok', 'timer -> error 19'),
     case('words: `tick` of 1 to 1,000,000',
          # K: "`tick N` (1 to 1,000,000)"; another number of words, or a value past a limit, is an error.
          'defer 3 2 -> ok', 'tick 0 -> error 2', 'tick 1000001 -> error 3', 'tick 1000000 -> quiet 1000000', 'tick -> error 5', 'tick 1 1 -> error 6',
@@ -152,7 +335,7 @@ DEFERRED = [
          'timer -> timer idle 0 0'),
 ]
 
-REQUESTS = {'deferred': DEFERRED}
+REQUESTS = {'pool': POOL, 'deferred': DEFERRED}
 
 
 def main():
