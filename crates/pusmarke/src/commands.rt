@@ -2,19 +2,23 @@
 ghost use Prim.Native.Nat.{_≤_};
 ghost use lib.ListN.{length};
 use console_calls::inner::map;
-use console_calls::inner::pdus;
 use console_calls::inner::receiving;
 use console_calls::inner::reports;
-use console_calls::inner::state;
-use console_calls::inner::state::State;
 use console_calls::inner::store;
 use console_calls::inner::timing;
+use console_pdus::inner::pdus;
+use console_pool::inner::kept;
+use console_pool::inner::transfers;
+use console_state::inner::state;
+use console_state::inner::state::State;
 use console_text::inner::part;
 use console_text::inner::words;
 use console_text::inner::words::Arguments;
+use console_text::inner::words::Value;
 
 pub enum Command {
     New,
+    Pool,
     Link,
     Lend,
     Load,
@@ -47,6 +51,9 @@ pub enum Command {
 fn state_named(word: &[u8]) -> Command {
     if words::same(word, b"new") {
         return Command::New;
+    }
+    if words::same(word, b"pool") {
+        return Command::Pool;
     }
     if words::same(word, b"link") {
         return Command::Link;
@@ -137,7 +144,7 @@ fn call_named(word: &[u8]) -> Command {
 }
 
 // The words of `new`: a width and ranges, with or without `pairs` before them; in both, the width is the first value.
-fn new_words(line: &[u8], from: usize, values: &mut [u64; 8209]) -> Arguments
+fn new_words(line: &[u8], from: usize, values: &mut [u64; 8274]) -> Arguments
     requires { ⌜ from ≤ length (now line) ⌝ }
 {
     let named = words::take_words(line, from, b"pwr", values);
@@ -149,8 +156,24 @@ fn new_words(line: &[u8], from: usize, values: &mut [u64; 8209]) -> Arguments
     words::take_words(line, from, b"wr", values)
 }
 
+// The words of `pool`: ranges, and none to nine groups of a width, a floor and a limit; `kinds` has those of nine.
+fn pool_words(line: &[u8], from: usize, kinds: &[u8], values: &mut [u64; 8274]) -> Arguments
+    requires { ⌜ from ≤ length (now line) ⌝ }
+{
+    let mut groups = 0;
+    while groups < 10 {
+        let n = part::first_octets(kinds, 1 + 3 * groups);
+        let taken = words::take_words(line, from, &kinds[..n], values);
+        if let Arguments::Taken(m) = taken {
+            return Arguments::Taken(m);
+        }
+        groups += 1;
+    }
+    Arguments::Wrong
+}
+
 // The words of `load`: progress, the mark, the count, and the size or `open`; the fifth value says whether the size is known.
-fn load_words(line: &[u8], from: usize, values: &mut [u64; 8209]) -> Arguments
+fn load_words(line: &[u8], from: usize, values: &mut [u64; 8274]) -> Arguments
     requires { ⌜ from ≤ length (now line) ⌝ }
 {
     let open = words::take_words(line, from, b"nkno", values);
@@ -168,13 +191,14 @@ fn arguments(
     command: Command,
     line: &[u8],
     from: usize,
-    values: &mut [u64; 8209],
+    values: &mut [u64; 8274],
     buf: &mut [u8],
 ) -> Arguments
     requires { ⌜ from ≤ length (now line) ⌝ }
 {
     match command {
         Command::New => new_words(line, from, values),
+        Command::Pool => pool_words(line, from, b"swnnwnnwnnwnnwnnwnnwnnwnnwnn", values),
         Command::Link => words::take_words(line, from, b"et", values),
         Command::Lend => words::take_words(line, from, b"l", values),
         Command::Load => load_words(line, from, values),
@@ -204,18 +228,30 @@ fn arguments(
     }
 }
 
+// new takes a pool away.
+fn start_anew(
+    s: State,
+    memory: &mut [u64],
+    values: &mut [u64; 8274],
+    out: &mut [u8; 65536],
+) -> State {
+    kept::without_pool(values);
+    state::new(s, memory, values[0], values[1], out)
+}
+
 // Answers a command whose first n words are in `values`; of `read`, whose n octets are in `buf`.
 fn answer(
     command: Command,
     s: State,
     n: usize,
     memory: &mut [u64],
-    values: &[u64; 8209],
+    values: &mut [u64; 8274],
     buf: &mut [u8],
     out: &mut [u8; 65536],
 ) -> State {
     match command {
-        Command::New => state::new(s, memory, values[0], values[1], out),
+        Command::New => start_anew(s, memory, values, out),
+        Command::Pool => transfers::pool(s, memory, values, n, out),
         Command::Link => state::link(s, values[0], values[1], out),
         Command::Lend => state::lend(s, values[0], out),
         Command::Load => state::load(s, values, out),
@@ -245,11 +281,89 @@ fn answer(
     }
 }
 
+// The commands that work in a pool without `for`.
+fn is_common(command: Command) -> bool {
+    match command {
+        Command::New => true,
+        Command::Pool => true,
+        Command::Link => true,
+        Command::Lend => true,
+        Command::Poke => true,
+        Command::Slots => true,
+        Command::Write => true,
+        Command::Read => true,
+        _ => false,
+    }
+}
+
+// Whether a command has no call in what the console holds.
+fn is_out_of_place(command: Command, values: &[u64; 8274]) -> bool {
+    if kept::is_pooled(values) {
+        return !is_common(command);
+    }
+    false
+}
+
+// Answers a command for transfer i, whose words are in `values`.
+fn answer_for(
+    command: Command,
+    s: State,
+    i: usize,
+    memory: &mut [u64],
+    values: &mut [u64; 8274],
+    buf: &mut [u8],
+    out: &mut [u8; 65536],
+) -> State {
+    match command {
+        Command::Data => transfers::data(s, memory, values, i, out),
+        Command::Metadata => transfers::metadata(s, memory, values, i, out),
+        Command::Eof => transfers::eof(s, memory, values, i, out),
+        Command::Held => transfers::held(s, memory, values, i, out),
+        Command::Missing => transfers::missing(s, memory, values, i, out),
+        Command::Map => transfers::draw(s, memory, values, i, out),
+        Command::Nak => transfers::sequence(s, memory, values, i, buf, out),
+        Command::Load => transfers::load(s, values, i, out),
+        Command::Show => transfers::show(s, memory, values, i, out),
+        _ => state::error(s, out),
+    }
+}
+
+// for: a transfer's number, and a command for it; in a pool alone.
+fn run_for(
+    s: State,
+    line: &[u8],
+    from: usize,
+    memory: &mut [u64],
+    values: &mut [u64; 8274],
+    buf: &mut [u8],
+    out: &mut [u8; 65536],
+) -> State
+    requires { ⌜ from ≤ length (now line) ⌝ }
+{
+    let named = words::next_number(line, from);
+    let value = named.value;
+    let Value::Number(i) = value else {
+        return state::error(s, out);
+    };
+    if !kept::is_pooled(values) {
+        return state::error(s, out);
+    }
+    let w = words::next_word(line, named.at);
+    let start = w.from;
+    let end = w.to;
+    let command = call_named(&line[start..end]);
+    let taken = arguments(command, line, end, values, buf);
+    let Arguments::Taken(_) = taken else {
+        return state::error(s, out);
+    };
+    answer_for(command, s, i as usize, memory, values, buf, out)
+}
+
 fn run(
     s: State,
     line: &[u8],
     memory: &mut [u64],
-    values: &mut [u64; 8209],
+    values: &mut [u64; 8274],
     buf: &mut [u8],
     out: &mut [u8; 65536],
 ) -> State {
@@ -265,11 +379,17 @@ fn run(
     if start == end {
         return s;
     }
+    if words::same(&line[start..end], b"for") {
+        return run_for(s, line, end, memory, values, buf, out);
+    }
     let command = call_named(&line[start..end]);
     let taken = arguments(command, line, end, values, buf);
     let Arguments::Taken(n) = taken else {
         return state::error(s, out);
     };
+    if is_out_of_place(command, values) {
+        return state::error(s, out);
+    }
     answer(command, s, n, memory, values, buf, out)
 }
 
@@ -278,7 +398,7 @@ pub fn end_line(
     s: State,
     line: &[u8],
     memory: &mut [u64],
-    values: &mut [u64; 8209],
+    values: &mut [u64; 8274],
     buf: &mut [u8],
     out: &mut [u8; 65536],
 ) -> State {

@@ -1,7 +1,7 @@
 // The console: commands, one a line, from a file or standard input; an answer to each on standard output (docs/CONSOLE.md).
 // A program has no public calls: `pub` lets its modules call one another, and a `requires` is what each caller here has seen to.
-use console_calls::inner::state;
-use console_calls::inner::state::State;
+use console_state::inner::state;
+use console_state::inner::state::State;
 use console_text::inner::print;
 use libc::STDERR_FILENO;
 use libc::STDIN_FILENO;
@@ -14,7 +14,7 @@ fn take_octet(
     octet: u8,
     line: &mut [u8],
     memory: &mut [u64],
-    values: &mut [u64; 8209],
+    values: &mut [u64; 8274],
     buf: &mut [u8],
     out: &mut [u8; 65536],
 ) -> State {
@@ -37,7 +37,7 @@ fn take_octets(
     octets: &[u8],
     line: &mut [u8],
     memory: &mut [u64],
-    values: &mut [u64; 8209],
+    values: &mut [u64; 8274],
     buf: &mut [u8],
     out: &mut [u8; 65536],
 ) -> State {
@@ -63,7 +63,7 @@ fn read_some(
     s: State,
     line: &mut [u8],
     memory: &mut [u64],
-    values: &mut [u64; 8209],
+    values: &mut [u64; 8274],
     buf: &mut [u8],
     out: &mut [u8; 65536],
 ) -> Turn {
@@ -88,7 +88,7 @@ fn read_all(
     name: &[u8],
     line: &mut [u8],
     memory: &mut [u64],
-    values: &mut [u64; 8209],
+    values: &mut [u64; 8274],
     buf: &mut [u8],
     out: &mut [u8; 65536],
 ) -> State {
@@ -111,7 +111,7 @@ fn answer_last(
     s: State,
     line: &mut [u8],
     memory: &mut [u64],
-    values: &mut [u64; 8209],
+    values: &mut [u64; 8274],
     buf: &mut [u8],
     out: &mut [u8; 65536],
 ) -> State {
@@ -126,7 +126,7 @@ fn answer_all(
     name: &[u8],
     line: &mut [u8],
     memory: &mut [u64],
-    values: &mut [u64; 8209],
+    values: &mut [u64; 8274],
     buf: &mut [u8],
     out: &mut [u8; 65536],
 ) {
@@ -138,7 +138,7 @@ fn answer_all(
 fn run(fd: i32, name: &[u8]) {
     let mut line = [0u8; 65535];
     let mut memory = [0u64; 8200];
-    let mut values = [0u64; 8209];
+    let mut values = [0u64; 8274];
     let mut buf = [0u8; 66000];
     let mut out = [0u8; 65536];
     answer_all(

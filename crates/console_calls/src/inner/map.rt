@@ -1,10 +1,10 @@
 // A picture of the file, over `held` and `segment_in_store`.
 ghost use mathlib.Core.Path.{_≡_};
 ghost use Prim.Native.Nat.{_+_, _*_, _/_, _<_, _≤_};
-use crate::inner::refusals;
-use crate::inner::state;
-use crate::inner::state::State;
 use answers::report::of_missing_octets;
+use console_state::inner::refusals;
+use console_state::inner::state;
+use console_state::inner::state::State;
 use console_text::inner::part;
 use console_text::inner::print;
 use console_text::inner::words::MOST_CELLS;
@@ -76,7 +76,16 @@ fn file_end(rec: Reception) -> u64 {
     if rec.sized { rec.size } else { rec.progress }
 }
 
-// map: the checks of the record, then the marks. The file has no fewer octets than the picture has cells.
+// The marks of a record whose checks are made. The file has no fewer octets than the picture has cells.
+pub fn draw(s: State, rec: Reception, list: &[u64], asked: u64, out: &mut [u8; 65536]) -> State {
+    let total = file_end(rec);
+    let cells = smaller(smaller(asked, total), MOST_CELLS);
+    let at = print::text(out, s.at, b"map ");
+    let end = marks(out, at, rec, list, total, cells);
+    state::answered(s, out, end)
+}
+
+// map: the checks of the record, then the marks.
 pub fn map(s: State, memory: &[u64], asked: u64, out: &mut [u8; 65536]) -> State {
     let lent = part::first_numbers(memory, s.length);
     let rec = s.rec;
@@ -84,10 +93,5 @@ pub fn map(s: State, memory: &[u64], asked: u64, out: &mut [u8; 65536]) -> State
     if a.refusal != 0 {
         return refusals::show_refusal(s, a, out);
     }
-    let total = file_end(rec);
-    let cells = smaller(smaller(asked, total), MOST_CELLS);
-    let at = print::text(out, s.at, b"map ");
-    let again = part::first_numbers(memory, s.length);
-    let end = marks(out, at, rec, &memory[..again], total, cells);
-    state::answered(s, out, end)
+    draw(s, rec, &memory[..lent], asked, out)
 }

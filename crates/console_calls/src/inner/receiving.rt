@@ -1,8 +1,8 @@
 // The reception events. Where there is a timer, each goes to it too.
-use crate::inner::refusals;
-use crate::inner::state;
-use crate::inner::state::State;
 use answers::PusmarkeAnswer;
+use console_state::inner::refusals;
+use console_state::inner::state;
+use console_state::inner::state::State;
 use console_text::inner::part;
 use console_text::inner::print;
 
@@ -22,12 +22,12 @@ fn show_event(s: State, from: usize, out: &mut [u8; 65536]) -> State {
     state::answered(s, out, end)
 }
 
-fn show_data(s: State, kept: u64, out: &mut [u8; 65536]) -> State {
+pub fn show_data(s: State, kept: u64, out: &mut [u8; 65536]) -> State {
     let at = noticed_or_kept(out, s.at, kept);
     show_event(s, at, out)
 }
 
-fn show_ended(s: State, out: &mut [u8; 65536]) -> State {
+pub fn show_ended(s: State, out: &mut [u8; 65536]) -> State {
     let at = print::text(out, s.at, b"ended");
     show_event(s, at, out)
 }

@@ -1,10 +1,9 @@
 // The store's calls.
-use crate::inner::refusals;
-use crate::inner::state;
-use crate::inner::state::State;
+use console_state::inner::refusals;
+use console_state::inner::state;
+use console_state::inner::state::State;
 use console_text::inner::part;
 use console_text::inner::print;
-use octets::LargeFileFlag;
 use segment_store::Store;
 
 fn store_of(s: State) -> Store {
@@ -115,14 +114,6 @@ pub fn within(s: State, memory: &[u64], start: u64, end: u64, out: &mut [u8; 655
     state::says(s, out, b"yes")
 }
 
-pub fn flag_of(mark: u64) -> LargeFileFlag {
-    if mark == 0 {
-        LargeFileFlag::Normal
-    } else {
-        LargeFileFlag::Large
-    }
-}
-
 pub fn octets(
     s: State,
     memory: &[u64],
@@ -138,7 +129,7 @@ pub fn octets(
             store_of(s),
             &memory[..lent],
             &mut buf[..n],
-            flag_of(large),
+            state::flag_of(large),
         ));
     if a.refusal != 0 {
         return refusals::show_refusal(s, a, out);

@@ -1,8 +1,8 @@
 // The timer of the deferred NAK procedure.
-use crate::inner::refusals;
-use crate::inner::state;
-use crate::inner::state::State;
 use answers::refusal::of_refusal;
+use console_state::inner::refusals;
+use console_state::inner::state;
+use console_state::inner::state::State;
 use console_text::inner::part;
 use console_text::inner::print;
 use deferred::make::make;

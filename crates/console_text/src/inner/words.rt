@@ -11,7 +11,11 @@ const BUFFER: u64 = 66000;
 
 pub const MOST_CELLS: u64 = 200;
 
-// The most ticks of one line.
+// The most words that are numbers, the most ranges of a pool, and the most ticks of one line.
+const MOST_WORDS: usize = 8209;
+
+const POOL_RANGES: u64 = 4100;
+
 const MOST_TICKS: u64 = 1000000;
 
 // The octets of a line from `from` up to `to`; none where no word is left.
@@ -149,11 +153,12 @@ fn mark(word: &[u8], first: &[u8], second: &[u8]) -> Value {
     Value::Wrong
 }
 
-// What a word says where this kind is due: `r` ranges, `l` a length of the memory, `b` one of the buffer, `c` cells of a picture, `i` ticks, `w` a width, `k`
+// What a word says where this kind is due: `r` ranges, `s` those of a pool, `l` a length of the memory, `b` one of the buffer, `c` cells of a picture, `i` ticks, `w` a width, `k`
 // whether metadata is known, `f` the large file flag, `e` the edition, `t` the trailer, `o` the word `open`, `p` the word `pairs`, `.` nothing; any other kind is a number.
 fn read_word(word: &[u8], kind: u8) -> Value {
     match kind {
         b'r' => number_to(word, MOST_RANGES),
+        b's' => number_to(word, POOL_RANGES),
         b'l' => number_to(word, MEMORY),
         b'b' => number_to(word, BUFFER),
         b'c' => number_from_one(word, MOST_CELLS),
@@ -167,6 +172,26 @@ fn read_word(word: &[u8], kind: u8) -> Value {
         b'p' => mark(word, b"pairs", b"pairs"),
         b'.' => Value::Wrong,
         _ => number(word),
+    }
+}
+
+// The number that the next word says, and where that word ends.
+pub struct Counted {
+    pub value: Value,
+    pub at: usize,
+}
+
+// No public call, as `next_word`.
+pub fn next_number(line: &[u8], from: usize) -> Counted
+    requires { ⌜ from ≤ length (now line) ⌝ }
+    ensures { λ r. ⌜ r .at ≤ length (now (line .entry)) ⌝ }
+{
+    let w = next_word(line, from);
+    let start = w.from;
+    let end = w.to;
+    Counted {
+        value: number(&line[start..end]),
+        at: end,
     }
 }
 
@@ -200,7 +225,7 @@ fn is_enough(kinds: &[u8], i: usize) -> bool {
 }
 
 // The words from `from` on, one of each kind, into `values`. No public call: `from` is where the command's name ends.
-pub fn take_words(line: &[u8], from: usize, kinds: &[u8], values: &mut [u64; 8209]) -> Arguments
+pub fn take_words(line: &[u8], from: usize, kinds: &[u8], values: &mut [u64; 8274]) -> Arguments
     requires { ⌜ from ≤ length (now line) ⌝ }
 {
     let mut at = from;
@@ -213,7 +238,7 @@ pub fn take_words(line: &[u8], from: usize, kinds: &[u8], values: &mut [u64; 820
         if start == end {
             at = total;
         } else {
-            if 8209 <= i {
+            if MOST_WORDS <= i {
                 return Arguments::Wrong;
             }
             let v = read_word(&line[start..end], due(kinds, i));

@@ -8,6 +8,7 @@ use console_text::inner::print;
 use deferring::Deferred;
 use lists::inner::moves::tidy;
 use nak::Edition;
+use octets::LargeFileFlag;
 use ranges::Width;
 use reception::Reception;
 
@@ -109,7 +110,7 @@ pub fn error(s: State, out: &mut [u8; 65536]) -> State {
     answered(s, out, end)
 }
 
-fn width_of(mark: u64) -> Width {
+pub fn width_of(mark: u64) -> Width {
     if mark == 0 {
         Width::Wide
     } else {
@@ -117,12 +118,26 @@ fn width_of(mark: u64) -> Width {
     }
 }
 
+// The large file flag, by its mark.
+pub fn flag_of(mark: u64) -> LargeFileFlag {
+    if mark == 0 {
+        LargeFileFlag::Normal
+    } else {
+        LargeFileFlag::Large
+    }
+}
+
+pub fn without_timer(s: State) -> State {
+    let mut next = s;
+    next.timer[0] = 0;
+    next
+}
+
 // new: a fresh reception of that width with room for that many ranges, and no timer.
 pub fn new(s: State, memory: &mut [u64], narrow: u64, ranges: u64, out: &mut [u8; 65536]) -> State {
     tidy(memory, 0, memory.len() / 2);
-    let mut next = with_record(s, Reception::fresh(width_of(narrow)));
+    let mut next = with_record(without_timer(s), Reception::fresh(width_of(narrow)));
     next.length = 2 * part::at_most(ranges as usize, 4096);
-    next.timer[0] = 0;
     says(next, out, b"ok")
 }
 
@@ -152,7 +167,7 @@ pub fn lend(s: State, length: u64, out: &mut [u8; 65536]) -> State {
 
 // load: progress, the metadata mark, the count and the size, unchecked; `sized` is 0 where the size is not known, and then its number is
 // 0 too. The values are those of the words in order, then `sized`.
-pub fn load(s: State, values: &[u64; 8209], out: &mut [u8; 65536]) -> State {
+pub fn load(s: State, values: &[u64; 8274], out: &mut [u8; 65536]) -> State {
     let mut rec = s.rec;
     rec.progress = values[0];
     rec.missing = values[1] != 0;
@@ -197,7 +212,7 @@ pub fn poke(
     says(s, out, b"ok")
 }
 
-fn numbers(out: &mut [u8; 65536], at: usize, list: &[u64]) -> usize {
+pub fn numbers(out: &mut [u8; 65536], at: usize, list: &[u64]) -> usize {
     let mut place = at;
     let mut i = 0;
     while i < list.len() {
@@ -207,14 +222,14 @@ fn numbers(out: &mut [u8; 65536], at: usize, list: &[u64]) -> usize {
     place
 }
 
-fn show_width(out: &mut [u8; 65536], at: usize, width: Width) -> usize {
+pub fn show_width(out: &mut [u8; 65536], at: usize, width: Width) -> usize {
     match width {
         Width::Wide => print::text(out, at, b"wide"),
         Width::Narrow => print::text(out, at, b"narrow"),
     }
 }
 
-fn show_missing(out: &mut [u8; 65536], at: usize, missing: bool) -> usize {
+pub fn show_missing(out: &mut [u8; 65536], at: usize, missing: bool) -> usize {
     if missing {
         print::text(out, at, b" missing")
     } else {
@@ -222,7 +237,7 @@ fn show_missing(out: &mut [u8; 65536], at: usize, missing: bool) -> usize {
     }
 }
 
-fn show_size(out: &mut [u8; 65536], at: usize, sized: bool, size: u64) -> usize {
+pub fn show_size(out: &mut [u8; 65536], at: usize, sized: bool, size: u64) -> usize {
     if sized {
         print::number(out, at, size)
     } else {

@@ -1,11 +1,10 @@
 // NAK PDUs: written, read, and the sequence.
 ghost use Prim.Native.Nat.{_≤_};
 ghost use lib.ListN.{length};
-use crate::inner::refusals;
-use crate::inner::state;
-use crate::inner::state::State;
-use crate::inner::store::flag_of;
 use answers::PusmarkeAnswer;
+use console_state::inner::refusals;
+use console_state::inner::state;
+use console_state::inner::state::State;
 use console_text::inner::part;
 use console_text::inner::print;
 use nak::Edition;
@@ -16,7 +15,7 @@ use nak_parser::inner::header_in;
 use octets::LargeFileFlag;
 
 // The first five words of `write` and `nak`: the lengths of the identifiers, source, number, destination.
-fn identity_of(values: &[u64; 8209]) -> Identity {
+pub fn identity_of(values: &[u64; 8274]) -> Identity {
     Identity {
         entity_length: values[0] as usize,
         number_length: values[1] as usize,
@@ -27,9 +26,9 @@ fn identity_of(values: &[u64; 8209]) -> Identity {
 }
 
 // The sixth is the mark of the PDUs' flag; the rest of their form is the link's.
-fn form_of(s: State, mark: u64) -> Form {
+pub fn form_of(s: State, mark: u64) -> Form {
     let edition = state::edition(s);
-    let flag = flag_of(mark);
+    let flag = state::flag_of(mark);
     let crc = s.crc;
     Form { edition, flag, crc }
 }
@@ -37,7 +36,7 @@ fn form_of(s: State, mark: u64) -> Form {
 // The requests of `write` are the words behind the first nine.
 fn write_requests(
     s: State,
-    values: &[u64; 8209],
+    values: &[u64; 8274],
     requests: &[u64],
     buf: &mut [u8],
     out: &mut [u8; 65536],
@@ -59,7 +58,7 @@ fn write_requests(
 
 pub fn write(
     s: State,
-    values: &[u64; 8209],
+    values: &[u64; 8274],
     words: &[u64],
     n: usize,
     buf: &mut [u8],
@@ -178,7 +177,7 @@ fn show_pdus(s: State, octets: &[u8], pdus: u64, out: &mut [u8; 65536]) -> State
 }
 
 // The PDUs, and then how many there are, their octets and the new cursor.
-fn show_sent(s: State, octets: &[u8], a: PusmarkeAnswer, out: &mut [u8; 65536]) -> State {
+pub fn show_sent(s: State, octets: &[u8], a: PusmarkeAnswer, out: &mut [u8; 65536]) -> State {
     let next = show_pdus(s, octets, a.first, out);
     let mut at = print::text(out, next.at, b"sent");
     at = print::number(out, at, a.first);
@@ -190,7 +189,7 @@ fn show_sent(s: State, octets: &[u8], a: PusmarkeAnswer, out: &mut [u8; 65536]) 
 pub fn sequence(
     s: State,
     memory: &[u64],
-    values: &[u64; 8209],
+    values: &[u64; 8274],
     buf: &mut [u8],
     out: &mut [u8; 65536],
 ) -> State {

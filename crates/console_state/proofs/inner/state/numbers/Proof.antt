@@ -1,9 +1,9 @@
--- `console_calls::inner::state::numbers` is safe and ends.
+-- `console_state::inner::state::numbers` is safe and ends.
 use borrow.Author.Needs.{needs}
 use Prim.Native.Nat.{_-_, _≤_}
 use lib.ListN.{length}
-use Rattle.console_calls.proofs.inner.state.numbers.Statement.{statement}
-use Rattle.console_calls.proofs.inner.state.numbers.Tie as tie
+use Rattle.console_state.proofs.inner.state.numbers.Statement.{statement}
+use Rattle.console_state.proofs.inner.state.numbers.Tie as tie
 
 abbrev Inv-loop : tie.InvT-loop
 Inv-loop out₀ at list place₀ i₀ out place i = i ≤ length list

@@ -1,12 +1,12 @@
--- `console_calls::inner::pdus::steps_of` is safe and ends: a field has four to eight octets.
+-- `console_pdus::inner::pdus::steps_of` is safe and ends: a field has four to eight octets.
 use native.Mathlib.Nat.{div-le-self}
 use native.Mathlib.Omega.{arith}
 use Prim.Native.Nat.{_*_}
 use lib.ListN.{length}
 use borrow.Author.Needs.{needs}
 use Rattle.nak.proofs.Room.{field-low, field-high}
-use Rattle.console_calls.proofs.inner.pdus.steps_of.Statement.{statement}
-use Rattle.console_calls.proofs.inner.pdus.steps_of.Tie as tie
+use Rattle.console_pdus.proofs.inner.pdus.steps_of.Statement.{statement}
+use Rattle.console_pdus.proofs.inner.pdus.steps_of.Tie as tie
 
 field-length-requires : tie.Need-field-length-requires
 field-length-requires c κs = search needs

@@ -1,8 +1,8 @@
--- `console_calls::inner::pdus::show_requests` is safe and ends.
+-- `console_pdus::inner::pdus::show_requests` is safe and ends.
 use borrow.Author.Needs.{needs}
 use Prim.Native.Nat.{_≤_}
-use Rattle.console_calls.proofs.inner.pdus.show_requests.Statement.{statement}
-use Rattle.console_calls.proofs.inner.pdus.show_requests.Tie as tie
+use Rattle.console_pdus.proofs.inner.pdus.show_requests.Statement.{statement}
+use Rattle.console_pdus.proofs.inner.pdus.show_requests.Tie as tie
 
 abbrev Inv-loop : tie.InvT-loop
 Inv-loop out₀ at packet from steps printed₀ next₀ left₀ out printed next left = left ≤ steps

@@ -1,9 +1,9 @@
--- `console_calls::inner::pdus::show_pdus` is safe and ends.
+-- `console_pdus::inner::pdus::show_pdus` is safe and ends.
 use borrow.Author.Needs.{needs}
 use Prim.Native.Nat.{_≤_}
 use lib.ListN.{length}
-use Rattle.console_calls.proofs.inner.pdus.show_pdus.Statement.{statement}
-use Rattle.console_calls.proofs.inner.pdus.show_pdus.Tie as tie
+use Rattle.console_pdus.proofs.inner.pdus.show_pdus.Statement.{statement}
+use Rattle.console_pdus.proofs.inner.pdus.show_pdus.Tie as tie
 
 abbrev Inv-loop : tie.InvT-loop
 Inv-loop octets pdus out₀ edition next₀ at₀ left₀ t12 out next at left = at ≤ length octets

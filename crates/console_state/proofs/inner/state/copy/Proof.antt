@@ -1,11 +1,11 @@
--- `console_calls::inner::state::copy` is safe and ends.
+-- `console_state::inner::state::copy` is safe and ends.
 use borrow.Author.Needs.{needs}
 use native.Mathlib.Omega.{arith}
 use Prim.Native.Nat.{_-_, _≤_}
 use mathlib.Core.Path.{_≡_}
 use lib.ListN.{length, length-set}
-use Rattle.console_calls.proofs.inner.state.copy.Statement.{statement}
-use Rattle.console_calls.proofs.inner.state.copy.Tie as tie
+use Rattle.console_state.proofs.inner.state.copy.Statement.{statement}
+use Rattle.console_state.proofs.inner.state.copy.Tie as tie
 
 abbrev Inv-loop : tie.InvT-loop
 Inv-loop to₀ from i₀ to i = (i ≤ length to) × ((length to ≡ length to₀) × (length to₀ ≤ length from))
