@@ -245,13 +245,11 @@ fn answer(
     s: State,
     n: usize,
     memory: &mut [u64],
-    values: &mut [u64; 8274],
+    values: &[u64; 8274],
     buf: &mut [u8],
     out: &mut [u8; 65536],
 ) -> State {
     match command {
-        Command::New => start_anew(s, memory, values, out),
-        Command::Pool => transfers::pool(s, memory, values, n, out),
         Command::Link => state::link(s, values[0], values[1], out),
         Command::Lend => state::lend(s, values[0], out),
         Command::Load => state::load(s, values, out),
@@ -277,7 +275,24 @@ fn answer(
         Command::Tick => timing::ticks(s, values[0], out),
         Command::Reset => timing::restart(s, memory, out),
         Command::Timer => timing::show(s, out),
-        Command::Unknown => s,
+        _ => s,
+    }
+}
+
+// Those too that change what the console keeps of a pool.
+fn answer_any(
+    command: Command,
+    s: State,
+    n: usize,
+    memory: &mut [u64],
+    values: &mut [u64; 8274],
+    buf: &mut [u8],
+    out: &mut [u8; 65536],
+) -> State {
+    match command {
+        Command::New => start_anew(s, memory, values, out),
+        Command::Pool => transfers::pool(s, memory, values, n, out),
+        _ => answer(command, s, n, memory, values, buf, out),
     }
 }
 
@@ -390,7 +405,7 @@ fn run(
     if is_out_of_place(command, values) {
         return state::error(s, out);
     }
-    answer(command, s, n, memory, values, buf, out)
+    answer_any(command, s, n, memory, values, buf, out)
 }
 
 // The line has ended: it is answered, and the next one begins.

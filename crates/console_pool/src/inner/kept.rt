@@ -35,25 +35,30 @@ pub fn is_kept(values: &[u64; 8274], i: usize) -> bool {
     i < used(values)
 }
 
-// Fresh transfers, of the groups of three words behind the first: width, floor, limit.
-pub fn lay(values: &mut [u64; 8274], groups: usize) {
+// Fresh transfer i, of its group of three words behind the first: width, floor, limit.
+fn lay_one(values: &mut [u64; 8274], i: usize)
+    requires { ⌜ i < 8 ⌝ }
+{
+    let from = 1 + 3 * i;
+    let at = RECORDS + 8 * i;
+    values[at] = 0;
+    values[at + 1] = 0;
+    values[at + 2] = values[from];
+    values[at + 3] = 1;
+    values[at + 4] = 0;
+    values[at + 5] = 0;
+    values[at + 6] = values[from + 1];
+    values[at + 7] = values[from + 2];
+}
+
+// Fresh transfers; of nine groups, which are refused by the calls, the first eight are kept.
+pub fn lay(values: &mut [u64; 8274], groups: usize)
+    requires { ⌜ groups ≤ 9 ⌝ }
+{
     values[POOLED] = groups as u64 + 1;
-    let n = part::at_most(groups, MOST);
     let mut i = 0;
-    while i < n {
-        let from = 1 + 3 * i;
-        let at = RECORDS + 8 * i;
-        let narrow = values[from];
-        let floor = values[from + 1];
-        let limit = values[from + 2];
-        values[at] = 0;
-        values[at + 1] = 0;
-        values[at + 2] = narrow;
-        values[at + 3] = 1;
-        values[at + 4] = 0;
-        values[at + 5] = 0;
-        values[at + 6] = floor;
-        values[at + 7] = limit;
+    while i < 8 {
+        lay_one(values, i);
         i += 1;
     }
 }
@@ -114,23 +119,27 @@ fn records(values: &[u64; 8274]) -> [Reception; 8] {
 }
 
 fn floors(values: &[u64; 8274]) -> [usize; 8] {
-    let mut all = [0; 8];
-    let mut i = 0;
-    while i < 8 {
-        all[i] = floor_at(values, i);
-        i += 1;
-    }
-    all
+    let a = floor_at(values, 0);
+    let b = floor_at(values, 1);
+    let c = floor_at(values, 2);
+    let d = floor_at(values, 3);
+    let e = floor_at(values, 4);
+    let f = floor_at(values, 5);
+    let g = floor_at(values, 6);
+    let h = floor_at(values, 7);
+    [a, b, c, d, e, f, g, h]
 }
 
 fn limits(values: &[u64; 8274]) -> [usize; 8] {
-    let mut all = [0; 8];
-    let mut i = 0;
-    while i < 8 {
-        all[i] = limit_at(values, i);
-        i += 1;
-    }
-    all
+    let a = limit_at(values, 0);
+    let b = limit_at(values, 1);
+    let c = limit_at(values, 2);
+    let d = limit_at(values, 3);
+    let e = limit_at(values, 4);
+    let f = limit_at(values, 5);
+    let g = limit_at(values, 6);
+    let h = limit_at(values, 7);
+    [a, b, c, d, e, f, g, h]
 }
 
 // The pool, unchecked.

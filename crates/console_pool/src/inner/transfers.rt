@@ -208,6 +208,24 @@ pub fn load(s: State, values: &mut [u64; 8274], i: usize, out: &mut [u8; 65536])
     state::says(s, out, b"ok")
 }
 
+// The numbers of transfer i, which has `count` ranges, in the pool's list.
+fn show_ranges(
+    memory: &[u64],
+    values: &[u64; 8274],
+    i: usize,
+    count: usize,
+    out: &mut [u8; 65536],
+    at: usize,
+) -> usize
+    requires { ⌜ i < 8 ⌝ }
+{
+    let base = kept::base_of(values, i);
+    let end = base + part::at_most(count, 4100);
+    let to = part::first_numbers(memory, 2 * end);
+    let from = part::at_most(2 * base, to);
+    state::numbers(out, at, &memory[from..to])
+}
+
 // show: the transfer and its numbers in the pool's list.
 pub fn show(
     s: State,
@@ -231,10 +249,6 @@ pub fn show(
     at = print::number(out, at, rec.progress);
     at = state::show_missing(out, at, rec.missing);
     at = state::show_size(out, at, rec.sized, rec.size);
-    let base = kept::base_of(values, i);
-    let end = base + part::at_most(rec.count, 4100);
-    let to = part::first_numbers(memory, 2 * end);
-    let from = part::at_most(2 * base, to);
-    at = state::numbers(out, at, &memory[from..to]);
+    at = show_ranges(memory, values, i, rec.count, out, at);
     state::answered(s, out, at)
 }
