@@ -27,6 +27,7 @@ struct pusmarke_nak {
 struct pusmarke_step { uint64_t found, start, end; size_t at; };
 struct pusmarke_deferred { uint64_t period, limit, activity, left, counter; };
 struct pusmarke_heard { struct pusmarke_answer answer; struct pusmarke_deferred timer; };
+struct pusmarke_pool { size_t used; struct pusmarke_reception records[8]; size_t floors[8], limits[8]; };
 
 struct pusmarke_answer pusmarke_add(uint64_t *, size_t, size_t, uint64_t, uint64_t, uint64_t);
 struct pusmarke_answer pusmarke_remove(uint64_t *, size_t, size_t, uint64_t, uint64_t, uint64_t);
@@ -49,6 +50,9 @@ struct pusmarke_heard pusmarke_tick(struct pusmarke_deferred);
 struct pusmarke_heard pusmarke_reset(struct pusmarke_deferred, struct pusmarke_reception, const uint64_t *, size_t);
 struct pusmarke_heard pusmarke_deferred_data(
     struct pusmarke_reception *, uint64_t *, size_t, uint64_t, uint64_t, struct pusmarke_deferred);
+struct pusmarke_pool pusmarke_pool_fresh(void);
+struct pusmarke_pool pusmarke_pool_add(struct pusmarke_pool, uint64_t, size_t, size_t);
+struct pusmarke_answer pusmarke_pool_data(struct pusmarke_pool *, uint64_t *, size_t, size_t, uint64_t, uint64_t);
 struct pusmarke_nak pusmarke_read(const uint8_t *, size_t, uint64_t);
 struct pusmarke_step pusmarke_next(const uint8_t *, size_t, size_t);
 
@@ -365,6 +369,26 @@ static void timed_fills(size_t n)
     same(heard.answer.refusal == 0 && heard.answer.first == 1 && record.count == n - 1 && heard.timer.left == 10, "answer");
 }
 
+// Data of the first of eight transfers, which hold n ranges together, an eighth each. The Rust has no pool.
+static void pooled(size_t n, uint64_t offset, uint64_t octets_of_data, size_t left)
+{
+    size_t own = n / 8;
+    struct pusmarke_pool pool = pusmarke_pool_fresh();
+    ascending(n);
+    for (size_t k = 0; k < 8; k++) {
+        pool = pusmarke_pool_add(pool, narrow, own, NUMBERS / 2);
+        pool.records[k] = (struct pusmarke_reception){ progress_of(own), own, narrow, 0, 0, 0 };
+        for (size_t i = 0; i < own; i++)
+            put(k * own + i, i);
+    }
+    COUNT(0, answer = pusmarke_pool_data(&pool, list, NUMBERS, 0, offset, octets_of_data));
+    same(answer.refusal == 0 && answer.first == 1 && pool.records[0].count == left, "answer");
+    same(list[2 * left] == start_of(0) && list[2 * (left + 7 * own) - 1] == end_of(own - 1), "lists");
+}
+
+static void pool_in_order(size_t n) { pooled(n, progress_of(n / 8), 1000, n / 8); }
+static void pool_fills(size_t n) { pooled(n, start_of(n / 16), end_of(n / 16) - start_of(n / 16), n / 8 - 1); }
+
 // The end of file, 100 octets past progress. The Rust leaves its progress and never joins: its list is coalesced before it is compared.
 static void eof_at(size_t n, uint64_t progress)
 {
@@ -535,6 +559,8 @@ static const struct {
     { "missing_octets", PORT, missing_octets },
     { "a tick of the timer", PORT, tick },
     { "data that fills a hole, with a timer", PORT, timed_fills },
+    { "data in order, in a pool of eight", PORT, pool_in_order },
+    { "data that fills a hole, in a pool of eight", PORT, pool_fills },
     { "NAK sequence", ALL, sequence },
     { "read one PDU", PORT, read_pdu },
     { "read one PDU with a trailer", PORT, read_crc },
