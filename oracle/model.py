@@ -1,13 +1,13 @@
 #!/usr/bin/env python3
-"""A model of the console, written from document 01, document 02's C-11, C-12, C-14, C-16, C-19, C-20, C-21, C-22 and C-24 and the
-console's language alone.
+"""A model of the console, written from document 01, document 02's C-11, C-12, C-14, C-16, C-19 to C-24 and the console's language
+alone.
 
     model.py [SCRIPT]      answers the script (or standard input) as the program must
     model.py --self-test   holds the interval algebra and histories of events against plain sets of offsets, a PDU's requests
                            against words of letters, the two editions against each other, and the CRC of a trailer against its
                            published check value, against division of whole numbers, and against every single bit turned over;
                            of a pool, every transfer against its own set of offsets and the sum over all; of the deferred NAK, the
-                           ticks since it was started last
+                           ticks since it was started last; of a plan, its offsets one by one, and our own sequences as plans
 
 Numbers are Python's, lists are lists of pairs; nothing here follows the Rust or the port.
 """
@@ -214,6 +214,52 @@ def read(octets, older):
     source, number, destination = head[4:4 + i], head[4 + i:4 + i + q], head[4 + i + q:]
     identity = [i, q] + [int.from_bytes(part, 'big') for part in (source, number, destination)]
     return identity, large, flagged, start, end, requests
+
+
+# A plan: PDUs that another proposes for a record.
+
+def cut(octets, lengths):
+    """Checks 20 and 6; the PDUs, which stand back to back."""
+    if len(lengths) > 16:
+        raise Refused(20)
+    if sum(lengths) != len(octets):
+        raise Refused(6, sum(lengths), len(octets))
+    return [octets[sum(lengths[:at]):sum(lengths[:at + 1])] for at in range(len(lengths))]
+
+
+def readable(octets, older):
+    try:
+        return read(octets, older)
+    except Refused:
+        return None
+
+
+def first(faults):
+    """The first PDU at fault; None where there is none."""
+    return next((at for at, fault in enumerate(faults) if fault), None)
+
+
+def asks_twice(asked):
+    """Is some offset asked for twice? Then the requests together have more offsets than their union."""
+    return sum(e - s for s, e in asked) != sum(e - s for s, e in runs(asked))
+
+
+def unfit(pdus, identity, older, pairs, missing):
+    """The first test that these PDUs fail and the PDU at fault, counted from 0; the number of PDUs where something is not asked for. None
+    where they fit a record with this list. Each test is over all PDUs before the next."""
+    said = [readable(pdu, older) for pdu in pdus]
+    if None in said:
+        return 1, said.index(None)
+    whole, metadata = [requests for *_, requests in said], (0, 0)
+    asked = [[request for request in requests if request != metadata] for requests in whole]
+    so_far = [[request for requests in asked[:at + 1] for request in requests] for at in range(len(pdus))]
+    unwanted = [at for at, requests in enumerate(whole) if metadata in requests][missing:]
+    tests = [(2, [who != identity for who, *_ in said]),
+             (3, [any(s < start or end < e for s, e in requests) for (_, _, _, start, end, _), requests in zip(said, asked)]),
+             (4, [asks_twice(requests) for requests in so_far]),
+             (5, [runs(pairs + requests) != pairs for requests in asked] + [runs(sum(asked, [])) != pairs]),
+             (6, [at in unwanted for at in range(len(pdus))] + [missing and not any(metadata in requests for requests in whole)])]
+    return next(((test, first(faults)) for test, faults in tests if any(faults)), None)
 
 
 # Words of a line.
@@ -455,6 +501,14 @@ class Reception:
             sent.append(packet(identity, self.older, large, self.crc, start, end, taken))
         return [f'pdu {pdu.hex()}' for pdu in sent] + [f'sent {len(sent)} {sum(map(len, sent))} {cursor}']
 
+    def plan(self, identity, lengths, octets):
+        pairs = self.record()
+        check_identity(identity)
+        fault = unfit(cut(octets, lengths), identity, self.older, pairs, self.missing)
+        if fault:
+            raise Refused(26, *fault)
+        return 'fits'
+
     # The record as the console sets and shows it.
 
     def load(self, progress, missing, count, size):
@@ -660,6 +714,13 @@ class Console(Reception):
             numbers = [start, end] + [n for pair in requests for n in pair]
             marks = ['large' if large else 'normal', 'crc' if flagged else 'plain']
             return ' '.join(['nak', *map(str, identity), *marks, *map(str, numbers)])
+        if name == 'plan':
+            if len(rest) < 6:
+                raise Malformed
+            identity, n = [number(word) for word in rest[:5]], number(rest[5], 64)
+            if not 6 + n <= len(rest) <= 7 + n or not all(map(IS_OCTETS, rest[6 + n:])):
+                raise Malformed
+            return self.plan(identity, [number(word, 65535) for word in rest[6:6 + n]], bytes.fromhex(''.join(rest[6 + n:])))
         if name == 'defer':
             need(2)
             self.timer = Timer(number(rest[0]), number(rest[1]))
@@ -1037,6 +1098,81 @@ def timer_history(rng):
     return done + 1
 
 
+def plan_of_sets(members, missing, told):
+    """C-23 said of offsets one by one, of PDUs that read and are for the transfer: (start, end, requests) each."""
+    seen, wanted = set(), [0, 1][missing]
+    for at, (start, end, requests) in enumerate(told):
+        if any(x not in range(start, end) for s, e in requests for x in range(s, e)):
+            return f'refused 26 3 {at}'
+    for at, (_, _, requests) in enumerate(told):
+        for x in [x for s, e in requests for x in range(s, e)]:
+            if x in seen:
+                return f'refused 26 4 {at}'
+            seen.add(x)
+    for at, (_, _, requests) in enumerate(told):
+        if not offsets(requests) <= members:
+            return f'refused 26 5 {at}'
+    if seen != members:
+        return f'refused 26 5 {len(told)}'
+    for at, (_, _, requests) in enumerate(told):
+        wanted -= requests.count((0, 0))
+        if wanted < 0:
+            return f'refused 26 6 {at}'
+    return f'refused 26 6 {len(told)}' if wanted else 'fits'
+
+
+def plans(rng):
+    """Random plans for small records against offsets one by one, some with a PDU that does not read or is another's, where the first of these
+    is blamed; and our own sequences, of any k up to 16 PDUs, which always fit."""
+    identity, seen = [1, 2, 3, 4, 5], {}
+    for done in range(6000):
+        members, progress, missing = {x for x in range(9) if rng.random() < 0.5}, 9, rng.random() < 0.4
+        if missing:
+            members = set(range(progress))
+        console = Console()
+        console.put(spans(members))
+        console.progress, console.missing, console.older = progress, missing, rng.random() < 0.3
+        # The missing offsets cut anyhow; then some request more or less, now and then.
+        pieces = [(x, x + 1) for x in members]
+        for _ in range(rng.randint(0, 6)):
+            joined = [(p, q) for p in pieces for q in pieces if p[1] == q[0]]
+            for p, q in joined[:1] if rng.random() < 0.5 else joined[-1:]:
+                pieces = [piece for piece in pieces if piece not in (p, q)] + [(p[0], q[1])]
+        pieces += [(0, 0)] * missing
+        for _ in range(rng.choice((0, 0, 0, 1, 1, 2))):
+            s, e = sorted(rng.sample(range(11), 2))
+            pieces = rng.choice((pieces[1:], pieces + [(s, e)], pieces + [(0, 0)]))
+        rng.shuffle(pieces)
+        told = [[0, 99, []] for _ in range(rng.randint(0 if not pieces else 1, 4))]
+        for piece in pieces:
+            among = [pdu for pdu in told if piece != (0, 0) or piece not in pdu[2]]
+            rng.choice(among or [[0, 0, []]])[2].append(piece)
+        for pdu in told:
+            if pdu[2] and rng.random() < 0.3:
+                pdu[:2] = max(0, min(s for s, _ in pdu[2]) + rng.choice((0, 0, 0, 1))), max(e for _, e in pdu[2]) + rng.choice((0, 0, 0, 1))
+            pdu[1] = max(pdu[:2])
+        said, pdus = plan_of_sets(members, missing, told), []
+        for start, end, requests in told:
+            large = not console.older and rng.random() < 0.5
+            pdus.append(packet(identity, console.older, large, rng.random() < 0.5, start, end, requests))
+        for test in (2, 1):
+            at = rng.randrange(len(pdus)) if pdus and rng.random() < 0.1 else None
+            if at is not None:
+                said = f'refused 26 {test} {at}'
+                pdus[at] = b'' if test == 1 else packet([2, 1, 3, 4, 5], console.older, False, False, 9, 9, [])
+        words = ' '.join(map(str, ['plan', *identity, len(pdus), *map(len, pdus), b''.join(pdus).hex()]))
+        assert console.line(1, words) == [said], (members, missing, told, words)
+        seen[said.rsplit(' ', 1)[0]] = seen.get(said.rsplit(' ', 1)[0], 0) + 1
+        # Our own sequence fits.
+        f = rng.choice(('normal', 'large')[:2 - console.older])
+        *sent, _ = console.line(1, f'nak 1 2 3 4 5 {f} {rng.randint(25, 120) + (f == "large") * 17} 0 16 4096')
+        sent = [bytes.fromhex(line.split(' ')[1]) for line in sent]
+        words = ' '.join(map(str, ['plan', *identity, len(sent), *map(len, sent), b''.join(sent).hex()]))
+        assert console.line(1, words) == ['fits'], words
+    assert len(seen) == 7 and min(seen.values()) > 50, seen
+    return done + 1
+
+
 def refused_of_letters(word):
     """C-12 said of a word, a letter for each request (good, metadata, another empty one, reversed): the longest beginning that
     has m at most once, and g for the rest, is fine, and the letter behind it is refused."""
@@ -1212,6 +1348,7 @@ def self_test():
     rng = random.Random('timers')
     done = sum(timer_history(rng) for _ in range(500))
     print(f'self-test: 500 timers agree with the ticks since their last start, in {done} events, resets and ticks')
+    print(f'self-test: {plans(random.Random("plans"))} plans agree with their offsets one by one, and as many of our own sequences fit')
     letters, done = {'g': (3, 9), 'm': (0, 0), 'e': (5, 5), 'r': (9, 4)}, 0
     for n, (older, large), flagged in itertools.product(range(7), ((False, False), (False, True), (True, False)), (False, True)):
         if flagged and n > 5:

@@ -262,6 +262,60 @@ DEFERRED_EXAMPLES = [
 ]
 
 
+def proposed(*told, ident=(1, 1, 1, 7, 2), words_=None, **form):
+    """A plan of PDUs given as (start, end, requests), or as octets; words_ is the identity of the line where it is another."""
+    pdus = [of if isinstance(of, bytes) else bytes(octets_of(list(ident), form.get('large', False), *of, form.get('edition', 'newer'), form.get('trailer', 'plain')))
+            for of in told]
+    return scripts.plan(words_ or ident, pdus)
+
+
+HOLES = [(10, 20), (30, 40)]
+A, B, META = HOLES[0], HOLES[1], (0, 0)
+BOTH = (0, 50, [A, B])
+PLAN_EXAMPLES = [
+    '# Document 02, C-23: any order, any cuts, any parts, PDUs that ask for nothing, tight and wide scopes, either flag, with and without a trailer.',
+    'new wide 8', *set_list(HOLES, 50, 'known'), proposed(BOTH), proposed((0, 50, [B, A])), proposed((30, 40, [B]), (10, 20, [A])),
+    proposed((0, 99, [(35, 40), (10, 12)]), (0, 35, [(12, 20), (30, 35)])), proposed((0, 0, []), BOTH, (7, 9, [])), proposed(BOTH, large=True),
+    proposed(BOTH, trailer='crc'),
+    proposed((10, 20, [A]), bytes(octets_of([1, 1, 1, 7, 2], True, 30, 40, [B], trailer='crc'))), 'show',
+    '# One test after the other, each at the first PDU and at a later one, over all PDUs before the next.',
+    proposed(BOTH, b'\x28\x00\x09\x00\x01\x07\x02\x09' + bytes(8)), proposed(b'', BOTH), proposed(BOTH, b''), proposed((9, 4, []), BOTH),
+    proposed((0, 50, [META, META])),
+    proposed((0, 50, [(5, 5)])), proposed((0, 50, [A, (9, 4)])), proposed(BOTH, trailer='crc')[:-1] + '0', proposed(BOTH, edition='older'),
+    proposed(BOTH, words_=(1, 1, 1, 8, 2)), proposed(BOTH, words_=(1, 1, 2, 7, 2)), proposed(BOTH, words_=(1, 1, 1, 7, 1)), proposed(BOTH, words_=(1, 2, 1, 7, 2)),
+    proposed(BOTH, words_=(2, 1, 1, 7, 2)), proposed(BOTH, bytes(octets_of([1, 1, 1, 8, 2], False, 0, 0, []))), proposed((10, 40, HOLES)), proposed((11, 40, HOLES)),
+    proposed((10, 39, HOLES)), proposed((0, 50, []), (0, 20, [A]), (0, 20, [B])), proposed((0, 50, [A]), (0, 50, [B]), (0, 50, [(19, 20)])),
+    proposed((0, 50, [(19, 20)]), (0, 50, [B]), (0, 50, [A])), proposed((0, 50, [A, B, A])), proposed((0, 50, [B]), (0, 50, [(10, 15), (14, 20)])),
+    proposed((0, 50, [B]), (0, 50, [(10, 15), (15, 20)])), proposed((0, 50, [A]), (0, 50, [B]), (0, 50, [B]), (0, 50, [A])), proposed(BOTH, (0, 50, [(20, 21)])),
+    proposed((0, 50, [(9, 20), B])), proposed((0, 50, [A]), (0, 50, [(30, 41)])), proposed((0, 50, [(10, 40)])), proposed((0, 60, [A, B, (50, 60)])),
+    proposed((0, 50, [A])),
+    proposed((0, 50, [A]), (0, 50, [(30, 39)])), proposed((0, 50, [(10, 21)]), (0, 50, [])), proposed((0, 50, [A, B, META])),
+    proposed(BOTH, (0, 0, [META]), (0, 0, [META])),
+    proposed((0, 5, HOLES), bytes(octets_of([1, 1, 1, 8, 2], False, 0, 50, [])), (9, 4, [])), proposed((0, 5, HOLES),
+                                                                                                       bytes(octets_of([1, 1, 1, 8, 2], False, 0, 50, []))),
+    proposed((0, 50, [A, A]), (0, 5, [B])), proposed((0, 50, [(0, 5)]), (0, 50, [A, A])), proposed((0, 50, [A, B, META]), (0, 50, [(0, 5)])),
+    '# Under the older edition; the metadata request once, at any place, not at all, twice; nothing missing; no PDU.',
+    'link older plain', proposed(BOTH), proposed(BOTH, edition='older'), proposed(BOTH, edition='older', trailer='crc'),
+    proposed(BOTH, edition='older', large=True), 'link newer plain',
+    *set_list([(0, 50)], 50), *(proposed(*told) for told in (((0, 50, [META, (0, 50)]),), ((0, 50, [(0, 50), META]),), ((0, 50, [(0, 50)]), (20, 30, [META])),
+                                                             ((0, 50, [(0, 50)]),),
+                                                           ((0, 50, [META, (0, 50)]), (0, 0, []), (0, 0, [META])), (), ((0, 50, [META]),),
+                                                           ((0, 0, [META]), (0, 50, [(0, 50)])))),
+    *set_list([], 50, 'known', 50), proposed(), proposed((0, 0, [])), proposed((0, 0, [META])), proposed((0, 50, [A])), *set_list([], 0), proposed(),
+    proposed((0, 0, [META])), 'show',
+    '# The checks, in their order: 10, 8, 12, 13, 20, 6. 16 and 17 PDUs, lengths one less and one more.',
+    *(line for record in ((HOLES, 50, 'known', 51), ([B, A], 50, 'known', 'open'), (HOLES, 39, 'known', 'open'), (HOLES, 50, 'known', 'open')) for line in (
+        *set_list(*record), 'plan 0 1 1 7 2 17' + ' 1' * 17, 'plan 1 1 1 7 2 17' + ' 1' * 17, 'plan 1 1 1 7 2 16' + ' 1' * 16, proposed(BOTH))),
+    *(words('plan', *ident, 0) for ident in ((0, 1, 0, 7, 0), (9, 1, 1, 7, 2), (1, 0, 1, 0, 2), (1, 9, 1, 7, 2), (1, 1, 256, 7, 2), (1, 1, 1, 256, 2),
+                                             (1, 1, 1, 7, 256), (8, 8, 1, 7, 2))),
+    *(proposed(*[(0, 0, [])] * n, BOTH) for n in (14, 15, 16, 63)), *(proposed(BOTH).replace(' 32 ', f' {n} ') for n in (31, 33, 0, 65535)), 'plan 1 1 1 7 2 1 32',
+    'plan 1 1 1 7 2 2 65535 65535 00', 'plan 1 1 1 7 2 0 00', 'show',
+    '# PDUs of 4,096 octets read, longer ones do not.',
+    *(line for n in (510, 511) for line in ('new wide 600', *set_list([(2 * s, 2 * s + 1) for s in range(n)], 2 * n, 'known'),
+                                            proposed((0, 2 * n, [(2 * s, 2 * s + 1) for s in range(n)])))),
+]
+
+
 def store(rng):
     """Store calls that reach every answer the Rust can give."""
     out = [*STORE_EXAMPLES, '# Document 02, C-16: each part of each range, with one, two and three ranges, both widths.']
@@ -507,6 +561,16 @@ def deferred(rng):
     return [*out, 'new wide 4']
 
 
+def plans(rng):
+    """PDUs that a planner proposes."""
+    out = [*PLAN_EXAMPLES, '# Plans that fit, with one fault and with two; small records; the order of the checks; our own sequences; words.']
+    for generator, blocks, most in ((scripts.plan_fits, 12, 500), (scripts.plan_damaged, 16, 600), (scripts.plan_orders, 60, 800),
+                                    (scripts.plan_small, 40, 400), (scripts.plan_checks, 300, 800),
+                                    (scripts.plan_own, 10, 900), (scripts.plan_words, 99, 400)):
+        out += short(generator, blocks, most)
+    return [*out, set_link('newer'), 'new wide 4']
+
+
 def console(rng):
     """Lines that are no command, and store calls that the port alone refuses."""
     nonsense = scripts.blocks(scripts.nonsense, 'sample')
@@ -543,6 +607,7 @@ REACHED = {
                 'nak': {8, 10, 12}, 'data': {8, 10, 12}, 'metadata': {8, 10, 12, 19}, 'eof': {8, 10, 12}},
     'pool': scripts.POOLED,
     'deferred': {**scripts.STARTED, **scripts.TIMED},
+    'plans': {'plan': scripts.REACH['plan']},
 }
 
 
@@ -583,7 +648,7 @@ def make(rust, run):
     """Writes the sample; says of each file whether it is as it was. False if something is amiss."""
     amiss, script = [], []
     # The console as it starts comes first; its last line goes without a newline.
-    for maker in (console, store, codec, link, trailer, reception, held, sequence, pool, deferred):
+    for maker in (console, store, codec, link, trailer, reception, held, sequence, pool, deferred, plans):
         name = maker.__name__
         lines = maker(random.Random(f'sample {name}'))
         if maker is store:

@@ -1904,6 +1904,390 @@ def timer_words(rng):
         yield ['new wide 4', words('defer', d, limit), 'timer', 'eof 9', 'timer']
 
 
+# Plans: PDUs that a planner proposes (C-23).
+
+def plan(ident, pdus):
+    """The line that proposes these PDUs."""
+    return words('plan', *ident, len(pdus), *map(len, pdus), b''.join(map(bytes, pdus)).hex()).rstrip()
+
+
+class Draft:
+    """A PDU of a plan before its octets are made: its identity, scope and requests, and its form."""
+
+    def __init__(self, ident, requests, flag='normal', edition='newer', trailer='plain'):
+        self.ident, self.requests, self.flag, self.edition, self.trailer = ident, requests, flag, edition, trailer
+        real = [pair for pair in requests if pair != (0, 0)]
+        self.start, self.end = min([s for s, _ in real], default=0), max([e for _, e in real], default=0)
+
+    def octets(self):
+        return bytes(octets_of(self.ident, self.flag == 'large', self.start, self.end, self.requests, self.edition, self.trailer))
+
+
+def cuts(rng, pairs, pieces):
+    """The ranges cut into some more pieces, at random places."""
+    out = list(pairs)
+    for _ in range(pieces):
+        at = rng.randrange(len(out)) if out else None
+        if at is not None and out[at][1] - out[at][0] > 1:
+            s, e = out.pop(at)
+            middle = rng.choice((s + 1, e - 1, rng.randint(s + 1, e - 1)))
+            out += [(s, middle), (middle, e)]
+    return out
+
+
+def drafted(rng, ident, pairs, missing, edition='newer', most=16, large=True):
+    """A plan that fits: the missing set in random order and cuts, parted at random among PDUs of any form of the edition, the metadata request at any
+    place, scopes tight or wider; now and then a PDU that asks for nothing."""
+    requests = cuts(rng, pairs, rng.choice((0, 0, 1, 3, 8)))
+    rng.shuffle(requests)
+    if missing:
+        requests.insert(rng.choice((0, len(requests), rng.randint(0, len(requests)))), (0, 0))
+    n = rng.choice((1, 1, 2, 3, rng.randint(1, most)))
+    if rng.random() < 0.8:
+        n = min(n, max(1, len(requests)))
+    parts = [[] for _ in range(n)]
+    bounds = sorted(rng.randint(0, len(requests)) for _ in range(n - 1))
+    for part, (low, high) in zip(parts, itertools.pairwise([0, *bounds, len(requests)])):
+        part += requests[low:high]
+    if not requests and rng.random() < 0.5:
+        parts = []
+    top = max([e for _, e in pairs], default=0)
+    drafts = []
+    for part in parts:
+        wide = top > NARROW or large and edition == 'newer' and rng.random() < 0.3
+        draft = Draft(ident, part, 'large' if wide else 'normal', edition, rng.choice(('plain', 'plain', 'crc')))
+        if rng.random() < 0.5:
+            draft.start, draft.end = rng.choice((0, draft.start)), draft.end + rng.choice((0, 1, 7)) if top < NARROW - 9 else draft.end
+        drafts.append(draft)
+    return drafts
+
+
+# Ways in which a plan fails one test. Each changes some drafts, or gives None where it can't.
+
+def broken(rng, pdus, at):
+    """A PDU that does not read, in one of many ways."""
+    packet = bytearray(pdus[at])
+    head = 4 + 2 * ((packet[3] >> 4) + 1) + (packet[3] & 7) + 1
+    way = rng.randrange(9)
+    if way == 0:
+        packet[rng.choice((0, 3))] ^= rng.choice((0x80, 0x08))
+    elif way == 1:
+        packet[0] ^= 0x20
+    elif way == 2:
+        packet[head] ^= 1 << rng.randrange(8)
+    elif way == 3:
+        packet = packet[:-1]
+    elif way == 4:
+        packet = bytearray()
+    elif way == 5:
+        packet.append(0)
+    elif way == 6:
+        packet[2] ^= 1
+    elif way == 7:
+        # The scope reversed: all ones in front.
+        packet[head + 1:head + 3] = b'\xff\xff'
+        packet[head + (9 if packet[0] & 1 else 5)] = 0
+        packet = resealed(packet) if packet[0] & 2 else packet
+    else:
+        packet[-1] ^= 1 if packet[0] & 2 else 0
+        packet = packet if packet[0] & 2 else packet[:3]
+    return bytes(packet)
+
+
+def no_request(rng, drafts, at, pairs, missing):
+    """1: a request that is empty or reversed, or a second (0, 0) in the same PDU."""
+    place = rng.randint(0, len(drafts[at].requests))
+    drafts[at].requests[place:place] = rng.choice(([(5, 5)], [(9, 4)], [(0, 0), (0, 0)]))
+
+
+def other_identity(rng, drafts, at, pairs, missing):
+    """2: another number, or the same in another length."""
+    ident = list(drafts[at].ident)
+    field = rng.randrange(5)
+    if field < 2:
+        ident[field] += 1 if ident[field] < 8 else -1
+        ident[2:] = [n % 256**length for n, length in zip(ident[2:], (ident[0], ident[1], ident[0]))]
+    else:
+        ident[field] ^= 1
+    drafts[at].ident = ident
+
+
+def out_of_scope(rng, drafts, at, pairs, missing):
+    """3: the scope starts behind the start of a request, or ends before the end of one, mostly by one."""
+    draft = drafts[at]
+    real = [pair for pair in draft.requests if pair[0] < pair[1]]
+    if not real:
+        return False
+    low, high = min(s for s, _ in real), max(e for _, e in real)
+    kind = rng.randrange(4)
+    draft.start, draft.end = [(low + 1, high), (low, high - 1), (high, high), (low, low)][kind]
+    return draft.start <= draft.end
+
+
+def asked_twice(rng, drafts, at, pairs, missing):
+    """4: an offset that is asked for already, in another PDU or in the same, the whole request or one octet of it; in front or behind."""
+    every = [pair for draft in drafts for pair in draft.requests if pair[0] < pair[1]]
+    if not every:
+        return False
+    s, e = rng.choice(every)
+    again = rng.choice(((s, e), (s, s + 1), (e - 1, e), (s, rng.randint(s + 1, e))))
+    drafts[at].requests.insert(rng.randint(0, len(drafts[at].requests)), again)
+    drafts[at].start, drafts[at].end = min(drafts[at].start, again[0]), max(drafts[at].end, again[1])
+
+
+def not_missing(rng, drafts, at, pairs, missing):
+    """5: an offset more that is not missing: a request is longer by one at either end, or one lies in what was kept, or past progress."""
+    top = pairs[-1][1] if pairs else 0
+    kept = [(e, s) for (_, e), (s, _) in itertools.pairwise(pairs)] + [(top + 1, top + 2)] + ([(0, pairs[0][0])] if pairs and pairs[0][0] else [])
+    s, e = rng.choice(kept)
+    more = rng.choice(((s, e), (s, s + 1), (e - 1, e)))
+    if more[1] > NARROW and drafts[at].flag == 'normal':
+        return False
+    touching = [i for i, pair in enumerate(drafts[at].requests) if pair[0] < pair[1] and (pair[1] == more[0] or pair[0] == more[1])]
+    if touching and rng.random() < 0.5:
+        i = touching[0]
+        s, e = drafts[at].requests[i]
+        drafts[at].requests[i] = min(s, more[0]), max(e, more[1])
+    else:
+        drafts[at].requests.append(more)
+    drafts[at].start, drafts[at].end = min(drafts[at].start, more[0]), max(drafts[at].end, more[1])
+
+
+def absent(rng, drafts, at, pairs, missing):
+    """5: a request is left out, or shorter by an octet."""
+    real = [i for i, pair in enumerate(drafts[at].requests) if pair[0] < pair[1]]
+    if not real:
+        return False
+    i = rng.choice(real)
+    s, e = drafts[at].requests[i]
+    if e - s > 1 and rng.random() < 0.6:
+        drafts[at].requests[i] = rng.choice(((s + 1, e), (s, e - 1)))
+    else:
+        drafts[at].requests.pop(i)
+
+
+def metadata_wrong(rng, drafts, at, pairs, missing):
+    """6: the metadata request is not there, or is not wanted, or stands in a second PDU."""
+    if missing and rng.random() < 0.5:
+        for draft in drafts:
+            draft.requests[:] = [pair for pair in draft.requests if pair != (0, 0)]
+    elif (0, 0) in drafts[at].requests:
+        return False
+    else:
+        drafts[at].requests.insert(rng.randint(0, len(drafts[at].requests)), (0, 0))
+
+
+DAMAGES = [no_request, other_identity, out_of_scope, asked_twice, not_missing, absent, metadata_wrong]
+
+
+def plan_record(rng, edition):
+    """A sound record for a plan: (pairs, progress, mark, size)."""
+    top = rng.choice((0, 0, 0, 0, NARROW - 300, TOP - 300)) if edition == 'newer' else rng.choice((0, 0, 0, NARROW - 300))
+    if rng.random() < 0.3:
+        progress = rng.choice((0, 1, 40, 300)) + (top if rng.random() < 0.3 else 0)
+        return [(0, progress)] if progress else [], progress, 'missing', rng.choice(('open', progress))
+    pairs = ascending(rng, rng.choice((0, 1, 1, 2, 3, 6, 12)), top, top + rng.choice((30, 200)))
+    progress = min(TOP, (pairs[-1][1] if pairs else top) + rng.choice((0, 0, 1, 50)))
+    return pairs, progress, 'known', rng.choice(('open', 'open', progress))
+
+
+def plan_fits(rng):
+    """Plans that fit: the missing set in random order, cuts and parts of one to sixteen PDUs, both flags, with and without a trailer, both editions,
+    the metadata request at any place, tight and wide scopes, empty PDUs; on records of 0 to 12 ranges, known and waiting, near 0, 2^32 and 2^64."""
+    while True:
+        edition = rng.choice(EDITIONS)
+        block = ['new wide 20', link(edition, rng.choice(TRAILERS))]
+        for _ in range(6):
+            pairs, progress, mark, size = record = plan_record(rng, edition)
+            block += set_list(*record)
+            for _ in range(4):
+                ident = rng.choice(([1, 1, 1, 7, 2], identity(rng)))
+                drafts = drafted(rng, ident, pairs, mark == 'missing', edition)
+                if any(n > NARROW for pair in pairs for n in pair) and edition == 'older':
+                    continue
+                block.append(plan(ident, [draft.octets() for draft in drafts]))
+        yield [*block, 'show', link('newer')]
+
+
+def plan_damaged(rng):
+    """The same, each with one fault for one test, at the first, a middle or the last PDU, or with two faults: 26 with each test and PDU."""
+    while True:
+        edition = rng.choice(('newer', 'newer', 'older'))
+        block = ['new wide 20', link(edition, rng.choice(TRAILERS))]
+        for _ in range(6):
+            pairs, progress, mark, size = record = plan_record(rng, edition)
+            if edition == 'older' and max([0, *(n for pair in pairs for n in pair)]) > NARROW:
+                continue
+            block += set_list(*record)
+            for _ in range(6):
+                ident = [1, 1, 1, 7, 2] if rng.random() < 0.7 else identity(rng)
+                drafts = drafted(rng, ident, pairs, mark == 'missing', edition, most=rng.choice((3, 6, 16)))
+                if not drafts:
+                    continue
+                # Request lists are changed in place: each draft has its own.
+                places = [rng.choice((0, len(drafts) - 1, rng.randrange(len(drafts)))) for _ in range(rng.choice((1, 1, 1, 2)))]
+                for at in places:
+                    rng.choice(DAMAGES)(rng, drafts, at, pairs, mark == 'missing')
+                    drafts[at].end = max(drafts[at].end, drafts[at].start)
+                pdus = [draft.octets() for draft in drafts]
+                if rng.random() < 0.12:
+                    pdus[places[0]] = broken(rng, pdus, places[0])
+                block.append(plan(ident, pdus))
+        yield [*block, 'show', link('newer')]
+
+
+def plan_orders(rng):
+    """Every two of the faults together, the later test's in an earlier PDU and the other way round, so that each test is seen over all PDUs before the
+    next: 26."""
+    for first, second, mark, turned in shuffled(rng, [*DAMAGES, None], [*DAMAGES, None], ('known', 'missing'), (0, 1)):
+        pairs, progress = ([(5, 9), (20, 30), (35, 36)], 40) if mark == 'known' else ([(0, 40)], 40)
+        edition, ident = rng.choice(EDITIONS), [1, 1, 1, 7, 2]
+        block = ['new wide 4', link(edition), *set_list(pairs, progress, mark, 'open')]
+        for _ in range(3):
+            requests = cuts(rng, pairs, 6)
+            rng.shuffle(requests)
+            parts = [requests[i::4] for i in range(4)]
+            if mark == 'missing':
+                rng.choice(parts).append((0, 0))
+            drafts = [Draft(ident, part, edition=edition, trailer=rng.choice(TRAILERS)) for part in parts]
+            for at, damage in zip((1, 2) if turned else (2, 1), (first, second)):
+                if damage:
+                    damage(rng, drafts, at, pairs, mark == 'missing')
+                    drafts[at].end = max(drafts[at].end, drafts[at].start)
+            pdus = [draft.octets() for draft in drafts]
+            for at, damage in zip((1, 2) if turned else (2, 1), (first, second)):
+                if damage is None:
+                    pdus[at] = broken(rng, pdus, at)
+            block.append(plan(ident, pdus))
+        yield [*block, link('newer')]
+
+
+def plan_small(rng):
+    """Small records, every missing set of the offsets 0 to 3, known, and waiting, with plans of up to three requests of the offsets 0 to 4 and the metadata
+    request, in one, two and three PDUs: fits, 26 with every test but 1 and 2."""
+    requests = [(0, 0), *itertools.combinations(range(5), 2)]
+    records = [(spans(bits), 5, 'known', 'open') for bits in range(2**4)] + [([(0, 4)], 4, 'missing', 4), ([], 0, 'missing', 'open'),
+                                                                             ([(0, 1)], 1, 'missing', 'open')]
+    for record, n, of in shuffled(rng, records, range(4), range(6)):
+        block = ['new wide 4', *set_list(*record)]
+        for _ in range(12):
+            some = rng.choices(requests, k=n)
+            if rng.random() < 0.6:
+                # Mostly such as could fit.
+                some = cuts(rng, record[0], rng.choice((0, 1)))[:n] + [(0, 0)] * (record[2] == 'missing' or rng.random() < 0.2)
+                rng.shuffle(some)
+            parts = [[] for _ in range(of % 3 + 1)]
+            for request in some:
+                rng.choice(parts).append(request)
+            drafts = [Draft([1, 1, 1, 7, 2], part) for part in parts]
+            for draft in drafts:
+                draft.start, draft.end = rng.choice(((draft.start, draft.end), (0, 9), (0, 9), (min(draft.start + 1, draft.end), draft.end),
+                                                     (draft.start, max(draft.start, draft.end - 1))))
+            block.append(plan([1, 1, 1, 7, 2], [draft.octets() for draft in drafts]))
+        yield block
+
+
+def plan_checks(rng):
+    """The order of the checks of a plan, 10, 8, 12, 13, 20, 6, and then the tests: records that are sound or fail one of theirs, identities that are none, 0, 1,
+    16, 17 and 64 PDUs, lengths that sum to the buffer, to one less and one more; both widths: each alone and with others."""
+    records = [([(12, 18), (30, 40)], 45, 'known', 'open'), ([(0, 45)], 45, 'missing', 45), ([(12, 18)], 45, 'known', 44), ([(12, 18)], 45, 'missing', 'open'),
+               ([(30, 40), (12, 18)], 45, 'known', 'open'), ([(12, 18), (30, 46)], 45, 'known', 'open'), ([], 45, 'known', 45),
+               ([(12, NARROW + 1)], NARROW + 1, 'known', 'open')]
+    idents = [[1, 1, 1, 7, 2], [1, 1, 1, 7, 2], [0, 1, 0, 7, 0], [1, 9, 1, 7, 2], [1, 1, 256, 7, 2], [1, 1, 1, 256, 2], [1, 1, 1, 7, 256], [8, 8, TOP, TOP, 0]]
+    for width, record, ident, n, less in shuffled(rng, WIDTHS, records, idents, (0, 1, 2, 16, 17, 64), (0, 1, -1)):
+        pairs, progress, mark, size = record
+        good = ident if ident in ([1, 1, 1, 7, 2], [8, 8, TOP, TOP, 0]) else [1, 1, 1, 7, 2]
+        requests = [(0, 0)] * (mark == 'missing') + pairs
+        drafts = [Draft(good, requests if i == n // 2 else [], 'large' if progress > NARROW else 'normal') for i in range(n)]
+        for draft in drafts:
+            draft.end = max(draft.start, draft.end)
+        pdus = [bytes(octets_of(good, d.flag == 'large', min(d.start, d.end), max(d.start, d.end), d.requests)) for d in drafts]
+        lengths, octets = [len(pdu) for pdu in pdus], b''.join(pdus)
+        if lengths and less:
+            lengths[rng.randrange(n)] -= less
+        elif less > 0 or rng.random() < 0.1:
+            octets += b'\x28'
+        yield [words('new', width, 4), *set_list(*record), words('plan', *ident, n, *lengths, octets.hex()).rstrip(), 'show']
+
+
+def own_sequence(ident, flag, pairs, progress, missing, k, edition, trailer):
+    """The PDUs of a whole sequence as document 01 has them, k requests each."""
+    entries = [(0, 0)] * missing + pairs
+    out = []
+    for at in range(0, len(entries), k):
+        start, last = entries[at - 1][1] if at else 0, at + k >= len(entries)
+        end = progress if last else entries[at + k - 1][1]
+        out.append(bytes(octets_of(ident, flag == 'large', start, end, entries[at:at + k], edition, trailer)))
+    return out
+
+
+def plan_own(rng):
+    """Our own sequence as a plan, sent by `nak` in the line before: of 0 to 17 PDUs, both flags and the older edition, with and without a trailer,
+    metadata known and
+    missing; at most 16 PDUs always fit, 17 are 20; the same with two PDUs in the other order, and without its first and its last."""
+    while True:
+        (edition, flag), trailer = rng.choice(FORMS), rng.choice(TRAILERS)
+        per, tail_ = 16 if flag == 'large' else 8, tail(trailer)
+        block = ['new wide 40', link(edition, trailer)]
+        for _ in range(4):
+            missing = rng.random() < 0.25
+            pairs = ascending(rng, rng.choice((0, 1, 2, 5, 16, 17, 30)), 0, 200)
+            progress = (pairs[-1][1] if pairs else 0) + rng.choice((0, 1, 30))
+            if missing:
+                pairs = [(0, progress)] if progress else []
+            ident, k = identity(rng), rng.choice((1, 1, 2, 3, 10))
+            largest = 5 + 2 * ident[0] + ident[1] + per * (1 + k) + tail_
+            pdus = own_sequence(ident, flag, pairs, progress, missing, k, edition, trailer)
+            block += [*set_list(pairs, progress, 'missing' if missing else 'known', rng.choice(('open', progress))),
+                      words('nak', *ident, flag, largest, 0, 16, 16 * largest), plan(ident, pdus)]
+            if len(pdus) > 1:
+                block += [plan(ident, pdus[::-1]), plan(ident, pdus[1:]), plan(ident, pdus[:-1]), plan(ident, [*pdus, pdus[rng.randrange(len(pdus))]])]
+        yield [*block, link('newer')]
+
+
+def plan_limits(rng):
+    """Plans near their limits: 16 PDUs, PDUs of 4,096 octets and of one request more, which do not read, lines of up to 65,535 octets, offsets up to
+    2^64 - 1; a last
+    octet left out, asked for twice, and one too many."""
+    ident = [1, 1, 1, 7, 2]
+    for n, per, flag in shuffled(rng, (1, 2, 16), (1, 60, 230, 510, 511), FLAGS):
+        if n * (per * (8 if flag == 'normal' else 16) + 24) * 2 > 60000 or n * per > 4096 or per == 510 and flag == 'large':
+            continue
+        base = 1 if flag == 'normal' else TOP - 2 * n * per
+        pairs = [(base + 2 * i, base + 2 * i + 1) for i in range(n * per)]
+        drafts = [Draft(ident, pairs[i::n], flag, trailer=TRAILERS[n == 16 and per < 200]) for i in range(n)]
+        pdus = [draft.octets() for draft in drafts]
+        block = ['new wide 4096', *set_list(pairs, pairs[-1][1], 'known'), plan(ident, pdus)]
+        requests = drafts[-1].requests
+        for changed in (requests[:-1], [*requests[:-1], requests[0]], [*requests[:-1], (requests[-1][0] - 1, requests[-1][1])]):
+            block.append(plan(ident, [*pdus[:-1], Draft(ident, changed, flag).octets()]))
+        yield block
+
+
+NO_PLANS = ['plan', 'plan 1', 'plan 1 1 1 7 2', 'plan 1 1 1 7 2 x', 'plan 1 1 1 7 2 -1', 'plan 1 1 1 7 2 1', 'plan 1 1 1 7 2 2 0', 'plan 1 1 1 7 2 0 0',
+            'plan 1 1 1 7 2 0 2',
+            'plan 1 1 1 7 2 0 2A', 'plan 1 1 1 7 2 0 zz', 'plan 1 1 1 7 2 0 28 28', 'plan 1 1 1 7 2 1 1 28 28', 'plan 1 1 1 7 2 1 x 28', 'plan 1 1 1 7 2 1 65536 28',
+            'plan 1 1 1 7 2 1 65536', 'plan 1 1 1 7 2 65' + ' 0' * 65, 'plan 1 1 1 7 2 65', 'plan 1 1 1 7 x 0', 'plan x 1 1 7 2 0',
+            'plan 1 1 1 7 18446744073709551616 0',
+            'Plan 1 1 1 7 2 0', 'plans 1 1 1 7 2 0', 'plan 1 1 1 7 2 18446744073709551615', 'plan 1 1 1 7 2 4294967296', 'for 0 plan 1 1 1 7 2 0']
+
+
+def plan_words(rng):
+    """Lines that are no plan: errors that change nothing; no PDU and empty buffers, lengths of 0 and of 65,535, 16, 17 and 64 of them; more spaces; in a pool a
+    plan is an error: fits, 6, 20, 26, error."""
+    fine = ['plan 1 1 1 7 2 0', '  plan   1 1 1   7 2 0  ', 'plan 1 1 1 7 2 0 28', 'plan 1 1 1 7 2 1 0', 'plan 1 1 1 7 2 1 65535', 'plan 1 1 1 7 2 1 1 28',
+            'plan 1 1 1 7 2 00 ',
+            'plan 1 1 1 7 2 16' + ' 0' * 16, 'plan 1 1 1 7 2 17' + ' 0' * 17, 'plan 1 1 1 7 2 64' + ' 0' * 64, 'plan 1 1 1 7 2 2 65535 65535 28',
+            'plan 1 1 1 7 2 16' + ' 65535' * 16,
+            'plan 1 1 1 7 2 2 0 0', 'plan 1 1 1 7 2 3 0 1 0 28', 'plan 1 1 1 7 2 1 16 28000900010702080000000000000000',
+            'plan 1 1 1 7 2 2 0 16 28000900010702080000000000000000', 'plan 1 1 1 7 2 2 16 0 28000900010702080000000000000000',
+            'plan 1 1 1 7 2 1 24 280011000107020800000000000000000000000000000000']
+    for lines in [(NO_PLANS + fine)[at:at + 4] for at in range(0, len(NO_PLANS + fine), 4)]:
+        for record in (([], 9, 'known', 9), ([], 0, 'missing', 'open'), ([(2, 5)], 9, 'known', 'open')):
+            yield ['new wide 4', *set_list(*record), *lines, 'show']
+        yield ['pool 3 wide 0 3', *lines, 'for 0 show', 'new wide 4', *lines]
+
+
 def nonsense(rng):
     """Lines that are no command: unknown words, too few and too many words, numbers of 21 digits and
     above 2^64 - 1, signs, tabs, capitals, odd and upper-case octets, values past each limit, lines of
@@ -1989,7 +2373,8 @@ LINKS = [link_octets, link_writes, link_reads, link_sequences, link_kept, link_w
 CRCS = [crc_trailers, crc_bits, crc_checks, crc_flags, crc_writes, crc_sequences]
 POOLS = [pool_small, pool_checks, pool_settings, pool_full, pool_sounders, pool_counts, pool_slots, pool_links, pool_words, pool_history, pool_wide_lists]
 TIMERS = [timer_states, timer_ticks, timer_resets, timer_late, timer_words, timer_history]
-REST = [*EVENTS, *QUERIES, *PDUS, *SEQUENCES, *LINKS, *CRCS, *POOLS, *TIMERS, nonsense]
+PLANS = [plan_damaged, plan_orders, plan_small, plan_fits, plan_checks, plan_own, plan_words, plan_limits]
+REST = [*EVENTS, *QUERIES, *PDUS, *SEQUENCES, *LINKS, *CRCS, *POOLS, *TIMERS, *PLANS, nonsense]
 
 # What a removal did (document 02, C-16), and by how many ranges the list grew.
 GREW = {'whole': -1, 'left': 0, 'right': 0, 'split': 1}
@@ -2161,6 +2546,13 @@ TIMED = {
     'reset': STARTED['reset'] | {'ok', 8, 10, 12, 'error'},
 }
 
+# What a plan is answered (C-23): with none, one, several and 16 PDUs it fits, with and without a trailer, with both flags and under the older edition; 26 of each
+# test blames the first PDU, one in the middle, the last, and where something is not asked for (tests 5 and 6) their number.
+PLANNED = {f'fits of {how}' for how in ('no PDU', 'one PDU', 'several PDUs', '16 PDUs', 'plain', 'crc', 'normal', 'large', 'newer', 'older', 'both flags',
+                                        'both trailers')}
+PLANNED |= {f'refused 26 {test} at {where} {edition}' for test in range(1, 7) for where in ('the first', 'a middle', 'the last') for edition in EDITIONS}
+PLANNED |= {f'refused 26 {test} at their number {edition}' for test in (5, 6) for edition in EDITIONS}
+
 # What a full run must meet at least once: by command, first words of answers and refusal numbers.
 REACH = {
     'add': {'added', 1, 2, 3, 4, 10},
@@ -2181,6 +2573,7 @@ REACH = {
     'link': LINKED_KINDS['link'] | {'ok', 'error'},
     **POOLED,
     **TIMED,
+    'plan': PLANNED | {'fits', 6, 8, 10, 12, 13, 20, 26, 'error'},
 }
 RUST_REACH = {
     'add': {'added', 1, 2, 3, 4},
@@ -2485,6 +2878,26 @@ class Pooled:
                 yield f'{saying(answer[0])} {where}, {slots}, {width}'
 
 
+def planned(parts, answer, edition):
+    """The kinds of an answer to a plan, as the tables above name them."""
+    n = int(parts[6]) if len(parts) > 6 and parts[6].isdecimal() else 0
+    said = answer.split(' ')
+    if said[:2] == ['refused', '26']:
+        at = int(said[3])
+        where = 'their number' if at == n else 'the first' if at == 0 else 'the last' if at == n - 1 else 'a middle'
+        yield f'refused 26 {said[2]} at {where} {edition}'
+    elif said == ['fits']:
+        hows = [{0: 'no PDU', 1: 'one PDU', 16: '16 PDUs'}.get(n, 'several PDUs')]
+        if n:
+            octets, at, firsts = bytes.fromhex(parts[7 + n]), 0, set()
+            for length in map(int, parts[7:7 + n]):
+                firsts.add(octets[at])
+                at += length
+            flags, trailers = {FLAGS[first & 1] for first in firsts}, {TRAILERS[first >> 1 & 1] for first in firsts}
+            hows += [edition, *flags, *trailers, *(['both flags'] if len(flags) > 1 else []), *(['both trailers'] if len(trailers) > 1 else [])]
+        yield from (f'fits of {how}' for how in hows)
+
+
 class Started:
     """The timer while lines are gone through, as it was shown last, and the event or reset that was told to it since."""
 
@@ -2534,6 +2947,8 @@ def met(lines, expected):
             if how:
                 yield parts[0], how
             yield from ((parts[0], how) for how in record.queried(numbers, answer[0]))
+        if parts[0] == 'plan':
+            yield from ((parts[0], how) for how in planned(parts, answer[0], link_now.edition))
         if parts[0] in ('write', 'read'):
             yield from ((parts[0], how) for how in orders(parts, answer[0], link_now))
         if parts[0] == 'show' and not answer[0].startswith('error '):

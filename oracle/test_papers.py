@@ -2,7 +2,7 @@
 """Small cases whose answers were worked out by hand from the papers, none from a program: each line of a script with its answer, and
 the sentence that it rests on. The model must give just these.
 
-    test_papers.py [NAME…]      all cases, or those of these requests (pool, deferred)
+    test_papers.py [NAME…]      all cases, or those of these requests (pool, deferred, plan)
 
 Ends with status 0 only if all agree.
 """
@@ -335,7 +335,157 @@ DEFERRED = [
          'timer -> timer idle 0 0'),
 ]
 
-REQUESTS = {'pool': POOL, 'deferred': DEFERRED}
+# C-23: the planner's sequences.
+
+def pdu(start, end, *requests, head='28', identity='00010702'):
+    """A NAK PDU by document 01's layout: normal flag, so fields of four octets; identity: octet 3, source 1, number 7, destination 2."""
+    return f'{head}{9 + 8 * len(requests):04x}{identity}08' + ''.join(f'{n:08x}' for pair in ((start, end), *requests) for n in pair)
+
+
+def plan(*pdus, words='1 1 1 7 2'):
+    return f'plan {words} {len(pdus)} ' + ' '.join([*(str(len(one) // 2) for one in pdus), ''.join(pdus)]).strip()
+
+
+# Metadata known, 10-20 and 30-40 missing, progress 50; the same without anything missing; and waiting, with 0-50 missing.
+TWO = ('new wide 8 -> ok', 'poke 0 10 20 30 40 -> ok', 'load 50 known 2 open -> ok')
+NONE = ('new wide 8 -> ok', 'load 50 known 0 open -> ok')
+WAITING = ('new wide 8 -> ok', 'poke 0 0 50 -> ok', 'load 50 missing 1 open -> ok')
+META, A, B = (0, 0), (10, 20), (30, 40)
+PLANS = [
+    case('one PDU with both requests, spelled out',
+         # D: "Accept exactly if each PDU reads, all carry the transfer's identity (lengths too), …": K: `fits`.
+         # 28, 16 + 9 octets behind the header of 7, directive 08, scope 0-50, 10-20, 30-40: 32 octets.
+         *TWO, 'plan 1 1 1 7 2 1 32 280019000107020800000000000000320000000a000000140000001e00000028 -> fits'),
+    case('any order and any cuts',
+         # D: "choose the order and cuts of requests itself"; "the planner need not follow its scope rule or order".
+         *TWO, f'{plan(pdu(0, 50, B, A))} -> fits', f'{plan(pdu(30, 40, B), pdu(10, 20, A))} -> fits',
+         f'{plan(pdu(0, 99, (35, 40), (10, 12)), pdu(0, 35, (12, 20), (30, 35)))} -> fits'),
+    case('PDUs that ask for nothing',
+         # D: "Accept exactly if …".
+         # "Accept exactly if …": no test speaks against a PDU without requests, whatever its scope.
+         *TWO, f'{plan(pdu(0, 0), pdu(0, 50, A, B), pdu(7, 9))} -> fits', *NONE, f'{plan(pdu(0, 0))} -> fits'),
+    case('no PDUs and an empty buffer',
+         # R: "No PDUs and an empty buffer are accepted if nothing is missing."
+         *NONE, 'plan 1 1 1 7 2 0 -> fits', *TWO, 'plan 1 1 1 7 2 0 -> refused 26 5 0', 'new wide 8 -> ok',
+         # A fresh record: nothing in the list, the metadata is missing.
+         'plan 1 1 1 7 2 0 -> refused 26 6 0', *WAITING, 'plan 1 1 1 7 2 0 -> refused 26 5 0'),
+    case('the metadata request, once, at any place',
+         # D: "the metadata request is there once if metadata is missing".
+         *WAITING, f'{plan(pdu(0, 50, META, (0, 50)))} -> fits', f'{plan(pdu(0, 50, (0, 50), META))} -> fits',
+         f'{plan(pdu(0, 50, (0, 50)), pdu(0, 0, META))} -> fits',
+         # "requests other than (0, 0) lie within their PDU's scope": (0, 0) may lie outside.
+         f'{plan(pdu(0, 50, (0, 50)), pdu(20, 30, META))} -> fits'),
+    case('6: the metadata request absent, unwanted, twice',
+         # R: "blames the PDU of an unwanted or of the second request; where it is wanted and absent, the number of PDUs".
+         *WAITING, f'{plan(pdu(0, 50, (0, 50)))} -> refused 26 6 1', f'{plan(pdu(0, 50, META, (0, 50)), pdu(0, 0), pdu(0, 0, META))} -> refused 26 6 2',
+         *TWO, f'{plan(pdu(0, 50, A, B, META))} -> refused 26 6 0', f'{plan(pdu(0, 50, A, B), pdu(0, 0, META), pdu(0, 0, META))} -> refused 26 6 1'),
+    case('1: a PDU that does not read',
+         # R: "1 reads". PDUs are counted from 0.
+         # The second one's directive code is 09.
+         *TWO, f'{plan(pdu(0, 50, A, B), "28000900010702090000000000000000")} -> refused 26 1 1',
+         # Two (0, 0) in one PDU do not read (2), nor does a reversed scope (18), an empty request (2), a reversed one (3).
+         f'{plan(pdu(0, 50, META, META))} -> refused 26 1 0', f'{plan(pdu(9, 4))} -> refused 26 1 0', f'{plan(pdu(0, 50, (5, 5)))} -> refused 26 1 0',
+         f'{plan(pdu(0, 50, (20, 10)))} -> refused 26 1 0'),
+    case('1: a length of 0 is a PDU that does not read (R)',
+         # R: "A length of 0 is a PDU that does not read."
+         *NONE, 'plan 1 1 1 7 2 1 0 -> refused 26 1 0', *TWO, f'{plan(pdu(0, 50, A, B), "")} -> refused 26 1 1', f'{plan("", pdu(0, 50, A, B))} -> refused 26 1 0'),
+    case('1: cut at the wrong place, lengths that sum to the buffer',
+         # D: "PDUs back to back with a list of their 16-bit lengths". Document 01: a packet that is not H plus its length field does not read (16).
+         *TWO, f'plan 1 1 1 7 2 2 31 1 {pdu(0, 50, A, B)} -> refused 26 1 0', f'plan 1 1 1 7 2 2 24 24 {pdu(10, 20, A)}{pdu(30, 40, B)} -> fits',
+         f'plan 1 1 1 7 2 2 23 25 {pdu(10, 20, A)}{pdu(30, 40, B)} -> refused 26 1 0', f'plan 1 1 1 7 2 1 48 {pdu(10, 20, A)}{pdu(30, 40, B)} -> refused 26 1 0'),
+    case('1: under the link\'s edition',
+         # R: "(under the link's edition …)".
+         *TWO, f'{plan(pdu(0, 50, A, B, head="08"))} -> refused 26 1 0', 'link older plain -> ok', f'{plan(pdu(0, 50, A, B, head="08"))} -> fits',
+         f'{plan(pdu(0, 50, A, B))} -> refused 26 1 0'),
+    case('1: a PDU may have the CRC flag, and then a right trailer',
+         # R: "a PDU may have the CRC flag". Document 02's own example: metadata and 100-200, scope 0-1000, trailer 02 65.
+         'new wide 8 -> ok', 'poke 0 100 200 -> ok', 'load 1000 known 1 open -> ok',
+         'plan 1 1 1 7 2 1 34 2a001b000107020800000000000003e8000000000000000000000064000000c80265 -> refused 26 6 0',
+         'plan 1 1 1 7 2 1 34 2a001b000107020800000000000003e8000000000000000000000064000000c80266 -> refused 26 1 0'),
+    case('flags are not identity (R): PDUs with both flags in one plan',
+         # R: "Flags are not identity."
+         # 29: the large flag, fields of 8 octets: 1 + 16 + 16 = 33 octets behind the header.
+         *TWO, f'{plan(pdu(10, 20, A), "29002100010702080000000000000000000000000000003200000000" + "0000001e0000000000000028")} -> fits'),
+    case('2: another source, number or destination',
+         # D: "all carry the transfer's identity".
+         *TWO, f'{plan(pdu(0, 50, A, B), words="1 1 1 8 2")} -> refused 26 2 0', f'{plan(pdu(0, 50, A, B), words="1 1 2 7 2")} -> refused 26 2 0',
+         f'{plan(pdu(0, 50, A, B), words="1 1 1 7 1")} -> refused 26 2 0', f'{plan(pdu(0, 50, A, B), pdu(0, 0, identity="00010802"))} -> refused 26 2 1'),
+    case('2: the lengths too',
+         # D: "(lengths too)". The same numbers, but the sequence number in two octets (octet 3 is 01).
+         *TWO, f'{plan(pdu(0, 50, A, B), words="1 2 1 7 2")} -> refused 26 2 0', f'{plan(pdu(0, 50, A, B, identity="0101000702"))} -> refused 26 2 0',
+         f'{plan(pdu(0, 50, A, B, identity="0101000702"), words="1 2 1 7 2")} -> fits'),
+    case('3: a request out of its PDU\'s scope, by one octet',
+         # D: "requests other than (0, 0) lie within their PDU's scope".
+         *TWO, f'{plan(pdu(10, 40, A, B))} -> fits', f'{plan(pdu(11, 40, A, B))} -> refused 26 3 0', f'{plan(pdu(10, 39, A, B))} -> refused 26 3 0',
+         # Within another PDU's scope is not enough.
+         f'{plan(pdu(0, 50), pdu(0, 20, A), pdu(0, 20, B))} -> refused 26 3 2'),
+    case('4: an offset twice, across PDUs: the later is blamed',
+         # D: "(of a repeat, the later)".
+         *TWO, f'{plan(pdu(0, 50, A), pdu(0, 50, B), pdu(0, 50, (19, 20)))} -> refused 26 4 2',
+         f'{plan(pdu(0, 50, (19, 20)), pdu(0, 50, B), pdu(0, 50, A))} -> refused 26 4 2'),
+    case('4: an offset twice in one PDU',
+         # R: "in an earlier PDU or in itself".
+         *TWO, f'{plan(pdu(0, 50, A, B, A))} -> refused 26 4 0', f'{plan(pdu(0, 50, B), pdu(0, 50, (10, 15), (14, 20)))} -> refused 26 4 1',
+         # Touching is no repeat.
+         f'{plan(pdu(0, 50, B), pdu(0, 50, (10, 15), (15, 20)))} -> fits'),
+    case('4: the first PDU that repeats, not the first that is repeated',
+         # R: "Test 4 blames the first PDU that asks for an offset asked before".
+         *TWO, f'{plan(pdu(0, 50, A), pdu(0, 50, B), pdu(0, 50, B), pdu(0, 50, A))} -> refused 26 4 2'),
+    case('5: an offset that is not missing: the first PDU that asks for one',
+         # R: "blames the first PDU that asks for an offset that is not missing; if there is none, the number of PDUs".
+         *TWO, f'{plan(pdu(0, 50, A, B), pdu(0, 50, (20, 21)))} -> refused 26 5 1', f'{plan(pdu(0, 50, (9, 20), B))} -> refused 26 5 0',
+         f'{plan(pdu(0, 50, A), pdu(0, 50, (30, 41)))} -> refused 26 5 1', f'{plan(pdu(0, 50, (10, 40)))} -> refused 26 5 0'),
+    case('5: past progress nothing is missing',
+         # D: "the union is the record's missing offsets": those of the list.
+         *TWO, f'{plan(pdu(0, 60, A, B, (50, 60)))} -> refused 26 5 0'),
+    case('5: something missing is not asked for: the number of PDUs',
+         # D: "where no PDU is at fault but something missing is not asked for, it names the number of PDUs".
+         *TWO, f'{plan(pdu(0, 50, A))} -> refused 26 5 1', f'{plan(pdu(0, 50, A), pdu(0, 50, (30, 39)))} -> refused 26 5 2',
+         # Both: not missing comes before not asked for.
+         f'{plan(pdu(0, 50, (10, 21)), pdu(0, 50))} -> refused 26 5 0'),
+    case('each test over all PDUs before the next',
+         # D: "Then each test runs over all PDUs before the next, in that order." PDU 0 fails a later test than PDU 1.
+         *TWO, f'{plan(pdu(0, 50, A, B), pdu(0, 0, identity="00010802"), pdu(9, 4))} -> refused 26 1 2',
+         f'{plan(pdu(0, 5, A, B), pdu(0, 50, identity="00010802"))} -> refused 26 2 1', f'{plan(pdu(0, 50, A, A), pdu(0, 5, B))} -> refused 26 3 1',
+         f'{plan(pdu(0, 50, (0, 5)), pdu(0, 50, A, A))} -> refused 26 4 1', f'{plan(pdu(0, 50, A, B, META), pdu(0, 50, (0, 5)))} -> refused 26 5 1'),
+    case('10, 8 and 12 of the record come first',
+         # D: "Checks: 10, 8, 12, 13, 20 (over 16), 6". N = 17 with bad identity and lengths that don't sum.
+         *TWO, 'load 50 known 2 51 -> ok', 'plan 0 1 1 7 2 17' + ' 1' * 17 + ' -> refused 10', 'load 50 known 3 open -> ok',
+         'plan 0 1 1 7 2 17' + ' 1' * 17 + ' -> refused 8',
+         'load 39 known 2 open -> ok', 'plan 0 1 1 7 2 17' + ' 1' * 17 + ' -> refused 12', 'load 50 known 2 open -> ok',
+         'plan 0 1 1 7 2 17' + ' 1' * 17 + ' -> refused 13', 'plan 1 1 1 7 2 17' + ' 1' * 17 + ' -> refused 20',
+         'plan 1 1 1 7 2 16' + ' 1' * 16 + ' -> refused 6 16 0'),
+    case('13: lengths outside 1 to 8, and numbers that do not fit',
+         # Document 01: "an identifier length outside 1 to 8, or a number that does not fit it".
+         *NONE, 'plan 0 1 0 7 0 0 -> refused 13', 'plan 9 1 1 7 2 0 -> refused 13', 'plan 1 9 1 7 2 0 -> refused 13', 'plan 1 1 256 7 2 0 -> refused 13',
+         'plan 1 1 1 256 2 0 -> refused 13', 'plan 1 1 1 7 256 0 -> refused 13', 'plan 1 1 255 255 255 0 -> fits', 'plan 8 8 1 7 2 0 -> fits'),
+    case('20: over 16 PDUs',
+         # D: "20 (over 16)".
+         *NONE, f'{plan(*[pdu(0, 0)] * 16)} -> fits', f'{plan(*[pdu(0, 0)] * 17)} -> refused 20', f'{plan(*[pdu(0, 0)] * 64)} -> refused 20'),
+    case('6 carries the sum and the buffer\'s length (R)',
+         # R: "6 carries the sum of the lengths and the buffer's length."
+         *TWO, f'plan 1 1 1 7 2 1 31 {pdu(0, 50, A, B)} -> refused 6 31 32', f'plan 1 1 1 7 2 1 33 {pdu(0, 50, A, B)} -> refused 6 33 32',
+         'plan 1 1 1 7 2 1 32 -> refused 6 32 0',
+         f'plan 1 1 1 7 2 0 {pdu(0, 50, A, B)} -> refused 6 0 32', 'plan 1 1 1 7 2 2 65535 65535 00 -> refused 6 131070 1'),
+    case('our own sequence is always accepted',
+         # D: "Our own sequence of at most 16 PDUs is always accepted".
+         # Document 01: PDUs of 24 octets hold one request each: scopes 0-20 and 20-50.
+         *TWO, f'nak 1 1 1 7 2 normal 24 0 16 384 -> pdu {pdu(0, 20, A)} / pdu {pdu(20, 50, B)} / sent 2 48 2', f'{plan(pdu(0, 20, A), pdu(20, 50, B))} -> fits',
+         *WAITING, f'nak 1 1 1 7 2 normal 24 0 16 384 -> pdu {pdu(0, 0, META)} / pdu {pdu(0, 50, (0, 50))} / sent 2 48 2',
+         f'{plan(pdu(0, 0, META), pdu(0, 50, (0, 50)))} -> fits'),
+    case('a plan changes nothing',
+         # Document 01: "Nothing lent changes under any of these"; and a plan is only checked.
+         *TWO, f'{plan(pdu(0, 50, A, B))} -> fits', 'show -> wide 16 2 50 known open 10 20 30 40', 'plan 1 1 1 7 2 0 -> refused 26 5 0',
+         'show -> wide 16 2 50 known open 10 20 30 40'),
+    case('words: N to 64, each length to 65,535, octets in lower case, none in a pool',
+         # K: "N lengths (N to 64, each to 65,535) and the octets of the PDUs back to back (no word where there are none)"; "over a reception of pairs".
+         *NONE, 'plan -> error 3', 'plan 1 1 1 7 2 -> error 4', 'plan 1 1 1 7 2 65' + ' 0' * 65 + ' -> error 5', 'plan 1 1 1 7 2 64' + ' 0' * 64 + ' -> refused 20',
+         'plan 1 1 1 7 2 1 -> error 7', 'plan 1 1 1 7 2 1 65536 -> error 8', 'plan 1 1 1 7 2 1 65535 -> refused 6 65535 0', 'plan 1 1 1 7 2 0 2 -> error 10',
+         'plan 1 1 1 7 2 0 2A -> error 11', 'plan 1 1 1 7 2 0 2a 2a -> error 12', 'plan 1 1 1 7 2 0 2a -> refused 6 0 1', 'plan 1 1 1 7 2 x -> error 14',
+         'pool 3 wide 0 3 -> ok', 'plan 1 1 1 7 2 0 -> error 16', 'for 0 plan 1 1 1 7 2 0 -> error 17'),
+]
+
+REQUESTS = {'pool': POOL, 'deferred': DEFERRED, 'plan': PLANS}
 
 
 def main():
