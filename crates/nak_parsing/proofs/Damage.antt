@@ -21,8 +21,8 @@ use Rattle.nak.specs.declared.Edition.{Edition}
 use Rattle.nak.specs.declared.Edition.the-variants.{Older, Newer}
 use Rattle.nak.specs.Header.{fixedBits0, fixed0, crcBit, crcFlagOf}
 use Rattle.nak_parsing.specs.Parser.{octetAt, packetFlag, packetCrc, trailerIn, fieldLengthIn, lengthField, wrongTrailer, readOutcome}
-use Rattle.nak_parsing.proofs.Reading.{Shape, Read, read-of}
-use Rattle.nak_parsing.proofs.OctetsBack.{bits-right, f-is}
+use Rattle.nak_parsing.proofs.Reading.{Shape, read-of}
+use Rattle.nak_parsing.proofs.OctetsBack.{bits-right}
 
 -- an accepted packet with the flag ends in its CRC
 pub ends-accepted : (v : Edition) (p : List ℕ) → AllOctets p → Shape v p → packetCrc p ≡ true → EndsInCrc p

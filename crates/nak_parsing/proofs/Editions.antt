@@ -1,7 +1,7 @@
 -- A packet of one edition is never accepted under the other: what one accepts, the other refuses with 15.
-use mathlib.Core.Path.{_≡_, refl, sym, ap, _∙_}
-use mathlib.Core.Bool.{Bool, true, false, not}
-use mathlib.Core.List.{List, []}
+use mathlib.Core.Path.{_≡_, refl, ap}
+use mathlib.Core.Bool.{false}
+use mathlib.Core.List.{List}
 use Prim.Native.Nat.{ℕ}
 use native.Mathlib.Omega.{arith}
 use lib.Dec.{eqb}
@@ -13,7 +13,7 @@ use Rattle.nak.specs.declared.Edition.{Edition}
 use Rattle.nak.specs.declared.Edition.the-variants.{Older, Newer}
 use Rattle.nak.specs.Header.{fixedBits0, fixed0, wrongFixed}
 use Rattle.nak_parsing.specs.Parser.{octetAt, readOutcome}
-use Rattle.nak_parsing.proofs.Reading.{Shape, Read, read-of}
+use Rattle.nak_parsing.proofs.Reading.{read-of}
 use Rattle.nak_parsing.proofs.OctetsBack.{bits-right}
 
 -- no octet 0 has the fixed bits of both

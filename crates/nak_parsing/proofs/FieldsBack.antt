@@ -25,11 +25,13 @@ use Rattle.nak.specs.declared.Form.{Form}
 use Rattle.nak.specs.Header.{wrongFixed, fixed0, crcBit, flagBit, octet0, octet3, isReservedSet, flagOf, crcFlagOf}
 use Rattle.nak.specs.Pdu.{Nak, nakCode, headerOctets, identityOctets, dataOctets, header, dataField, trailerLength, front, trailer, pdu}
 use Rattle.nak.specs.Inner.{GoodLengths}
-use Rattle.nak.proofs.Parts.{length-header, length-data, pdu-parts, length-trailer, length-front, length-pdu}
+use Rattle.nak.proofs.Parts.{length-header, length-data, pdu-parts, length-pdu}
 use Rattle.crc.specs.Damage.{endsInCrc}
 use Rattle.crc.proofs.Ends.{ends-tested}
 use Rattle.nak.proofs.Checks.{good-lengths, GoodNumbers, good-numbers, NakFine}
-use Rattle.nak_parsing.specs.Parser.{octetAt, fieldAt, packetFlag, packetCrc, trailerIn, packetForm, fieldLengthIn, entityLengthIn, numberLengthIn, headerLengthIn, lengthField, scopeAt, requestsAt, requestsEnd, requestsIn, packetIdentity, scopeIn, packetRequests, nakIn, wrongLength, wrongTrailer, wrongData, readOutcome}
+use Rattle.nak_parsing.specs.Parser.{octetAt, fieldAt, packetFlag, packetCrc, trailerIn, packetForm, fieldLengthIn, entityLengthIn, numberLengthIn, headerLengthIn}
+use Rattle.nak_parsing.specs.Parser.{lengthField, scopeAt, requestsAt, requestsEnd, requestsIn, packetIdentity, scopeIn, packetRequests, nakIn, wrongLength}
+use Rattle.nak_parsing.specs.Parser.{wrongTrailer, wrongData, readOutcome}
 use Rattle.nak_parsing.proofs.Reading.{header-is, Shape, shape-of, read-fine}
 
 -- the number of a field that stands behind x
@@ -292,7 +294,8 @@ module _ (n : Nak) (fine : NakFine n) where
   requests-of-back =
       let a = below-top (n .form .flag) (n .scope .start) (n .scope .end ∷ flat (n .requests)) (fine .numbers) in
       let b = below-top (n .form .flag) (n .scope .end) (flat (n .requests)) (a .1) in
-      rw (rest, requests-at-back, field-length-back, end-of-requests, count-is (n .form .flag) (headerLengthIn (pdu n)) (length (n .requests))) (requests-back (n .form .flag) (n .requests) (trailer (n .form) (front n)) (b .1))
+      let c = count-is (n .form .flag) (headerLengthIn (pdu n)) (length (n .requests)) in
+      rw (rest, requests-at-back, field-length-back, end-of-requests, c) (requests-back (n .form .flag) (n .requests) (trailer (n .form) (front n)) (b .1))
 
   -- reading what was written gives back every field, the requests in order and the form included
   pub nak-back : nakIn edition (pdu n) ≡ n

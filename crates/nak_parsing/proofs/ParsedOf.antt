@@ -2,7 +2,7 @@
 use mathlib.Core.Path.{_≡_, refl, ap}
 use mathlib.Core.Bool.{Bool, true, false}
 use mathlib.Core.List.{List, []}
-use Prim.Native.Nat.{ℕ, _+_, _*_, _-_, _≤_, _<_}
+use Prim.Native.Nat.{ℕ, _+_, _-_, _≤_, _<_}
 use native.Mathlib.Omega.{arith}
 use lib.Dec.{eqb}
 use lib.ListN.{length, take, drop}
@@ -18,7 +18,8 @@ use Rattle.outcomes.specs.declared.Refusal.the-variants as refusal
 use Rattle.outcomes.specs.Refusal.{refusing}
 use Rattle.outcomes.specs.declared.Refusal.{Refusal}
 use Rattle.outcomes.proofs.Refusals.{refuses}
-use Rattle.nak_parsing.specs.Parser.{packetForm, fieldLengthIn, packetIdentity, scopeIn, requestsAt, requestsEnd, readOutcome, acceptedParsed, refusedParsed, parsedOf, requestsPart, requestsPtr}
+use Rattle.nak_parsing.specs.Parser.{packetForm, packetIdentity, scopeIn, requestsAt, requestsEnd, readOutcome, acceptedParsed, refusedParsed, parsedOf}
+use Rattle.nak_parsing.specs.Parser.{requestsPart, requestsPtr}
 use Rattle.nak_parsing.proofs.Reading.{read-of}
 use Rattle.nak_parsing.proofs.OctetsBack.{requests-in}
 

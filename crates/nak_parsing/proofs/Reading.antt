@@ -26,7 +26,8 @@ use Rattle.nak.specs.Request.{requestsChecks}
 use Rattle.nak.specs.Writer.{largestPdu}
 use Rattle.nak.proofs.Checks.{none-append}
 use Rattle.nak_parsing.specs.Parser.{octetAt, fieldAt, packetFlag, packetCrc, trailerIn, fieldLengthIn, entityLengthIn, numberLengthIn, headerLengthIn, lengthField}
-use Rattle.nak_parsing.specs.Parser.{scopeAt, behindScope, requestsAt, requestsEnd, requestsIn, packetIdentity, scopeIn, packetRequests, isWrongLength, wrongLength, wrongTrailer, isWrongData, wrongData, shapeChecks, readChecks, readOutcome}
+use Rattle.nak_parsing.specs.Parser.{scopeAt, behindScope, requestsAt, requestsEnd, requestsIn, packetIdentity, scopeIn, packetRequests, isWrongLength, wrongLength}
+use Rattle.nak_parsing.specs.Parser.{wrongTrailer, isWrongData, wrongData, shapeChecks, readChecks, readOutcome}
 
 -- an identity of these lengths and numbers
 abbrev pub identityOf : ℕ → ℕ → ℕ → ℕ → ℕ → Identity

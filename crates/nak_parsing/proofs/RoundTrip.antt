@@ -23,7 +23,8 @@ use Rattle.nak.specs.Inner.{GoodLengths}
 use Rattle.nak.specs.Writer.{isBadList, numbersOf, nakOutcome, writeOutcome, written}
 use Rattle.nak.proofs.Checks.{GoodNumbers, not-bad-identity, NakFine, nak-of, fine-nak, fine-write, write-accepted}
 use Rattle.nak_parsing.specs.declared.Parsed.{Parsed}
-use Rattle.nak_parsing.specs.Parser.{requestsPart, acceptedParsed, Says, packetFlag, fieldLengthIn, entityLengthIn, numberLengthIn, headerLengthIn, scopeAt, requestsAt, requestsEnd, requestsIn, packetIdentity, scopeIn, packetRequests, nakIn, readOutcome}
+use Rattle.nak_parsing.specs.Parser.{requestsPart, acceptedParsed, Says, packetFlag, fieldLengthIn, entityLengthIn, numberLengthIn, headerLengthIn, scopeAt}
+use Rattle.nak_parsing.specs.Parser.{requestsAt, requestsEnd, requestsIn, packetIdentity, scopeIn, packetRequests, nakIn, readOutcome}
 use Rattle.nak_parsing.proofs.Reading.{Read, read-of, header-is, entity-low, entity-high, number-low, number-high}
 use Rattle.nak_parsing.proofs.Editions.{one-edition}
 use Rattle.nak_parsing.proofs.ParsedOf.{parsed-accepted}
@@ -141,7 +142,8 @@ good-requests : (v : Edition) (p : List ℕ) → Read v p → isBadList (flat (p
 unfolding isBadList packetRequests
 good-requests v p r =
     let k = countIn p in
-    let l : length (flat (requestsIn (fieldLengthIn p) k (drop (requestsAt p) p))) ≡ 2 * k = length-flat (requestsIn (fieldLengthIn p) k (drop (requestsAt p) p)) ∙ rw (length-requests-in (fieldLengthIn p) k (drop (requestsAt p) p)) in
+    let rs = requestsIn (fieldLengthIn p) k (drop (requestsAt p) p) in
+    let l : length (flat rs) ≡ 2 * k = length-flat rs ∙ rw (length-requests-in (fieldLengthIn p) k (drop (requestsAt p) p)) in
     let s = r .size in
     let i = requests-in v p r in
     let h = div-le-self (requestsEnd p - requestsAt p) (2 * fieldLengthIn p) in
@@ -154,7 +156,9 @@ pub written-read :
     → AllOctets p
     → readOutcome v p .number ≡ 0
     → length buf ≡ length p
-    → (writeOutcome (flat (packetRequests p)) (nakIn v p) (length buf) ≡ accepted (length p ∷ [])) × (written (flat (packetRequests p)) (nakIn v p) buf ≡ p) × (pairs (flat (packetRequests p)) ≡ packetRequests p)
+    → (writeOutcome (flat (packetRequests p)) (nakIn v p) (length buf) ≡ accepted (length p ∷ []))
+    × (written (flat (packetRequests p)) (nakIn v p) buf ≡ p)
+    × (pairs (flat (packetRequests p)) ≡ packetRequests p)
 written-read v p buf a z e =
     let r = read-of v p z in
     let f = pdu-forth v p a r in

@@ -47,7 +47,8 @@ going p (suc j) at k h =
     let n = not-at-end p at (omega arith) in
     rw (suc-add, n, drop-drop f at p, drop-drop (2 * f) at p, going p j (at + 2 * f) k (omega arith))
 
-stepping-if : (v : Edition) (p : List ℕ) (k : ℕ) (t : Bool) → eqb (readOutcome v p .number) 0 ≡ t → steps p (parsedOf v p .next) (length (requestsGiven v p) + k) ≡ eachRequest (requestsGiven v p) ++ replicate k (accepted [])
+stepping-if : (v : Edition) (p : List ℕ) (k : ℕ) (t : Bool) → eqb (readOutcome v p .number) 0 ≡ t
+    → steps p (parsedOf v p .next) (length (requestsGiven v p) + k) ≡ eachRequest (requestsGiven v p) ++ replicate k (accepted [])
 unfolding packetRequests
 stepping-if v p k true e =
     let r = read-of v p (eqb-true (readOutcome v p .number) 0 e) in

@@ -6,7 +6,7 @@ ghost use Prim.Native.Nat.{_≤_};
 ghost use lib.ListN.{length};
 ghost use Rattle.ranges.specs.Store.{flat, mostNumbers};
 ghost use Rattle.octets.specs.Flag.{fieldLength};
-ghost use Rattle.nak.specs.Pdu.{headerLength, dataLength, trailerLength, pduLength, perPdu, isTooSmall};
+ghost use Rattle.nak.specs.Pdu.{headerLength, dataLength, pduLength, perPdu, isTooSmall};
 ghost use Rattle.nak.specs.Inner.{metadataFirst, GoodLengths};
 
 // H, by the identifier lengths.

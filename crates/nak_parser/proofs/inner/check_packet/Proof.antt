@@ -24,7 +24,8 @@ abbrev said : Bool → List Range → Outcome
 said none rs = firstOf (checksFrom none rs) (accepted [])
 
 abbrev Inv-loop : tie.InvT-loop
-Inv-loop packet from f count at₀ none₀ i₀ at none i = (i ≤ count) × (at ≡ from + 2 * f * i) × (said none (requestsIn f (count - i) (drop at packet)) ≡ said true (requestsIn f count (drop from packet)))
+Inv-loop packet from f count at₀ none₀ i₀ at none i =
+    (i ≤ count) × (at ≡ from + 2 * f * i) × (said none (requestsIn f (count - i) (drop at packet)) ≡ said true (requestsIn f count (drop from packet)))
 
 abbrev μ-loop : tie.MeasureT-loop
 μ-loop packet from f count at₀ none₀ i₀ at none i = count - i

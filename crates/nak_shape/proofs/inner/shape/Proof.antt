@@ -12,7 +12,7 @@ use Rattle.octets.proofs.Fields.{octets-all}
 use Rattle.octets.specs.Flag.{fieldLength}
 use Rattle.nak.specs.Header.{wrongFixed}
 use Rattle.nak.specs.Pdu.{nakCode, trailerLength}
-use Rattle.nak_parsing.specs.Parser.{octetAt, packetCrc, trailerIn, fieldLengthIn, headerLengthIn, lengthField, wrongLength, wrongTrailer, wrongData}
+use Rattle.nak_parsing.specs.Parser.{octetAt, trailerIn, fieldLengthIn, headerLengthIn, lengthField, wrongLength, wrongTrailer, wrongData}
 use Rattle.nak_parsing.specs.declared.inner.Header.{Header}
 use Rattle.nak_parsing.proofs.Reading.{field-low, field-high, header-high, trailer-high, length-low, right-length, is-length, is-data, trailer-first, directive-first}
 use borrow.Author.Needs.{needs}
@@ -43,7 +43,8 @@ fixed : (c : tie.After-wrong-fixed) → c .wrong-fixed .result ≡ wrongFixed (s
 fixed c =
     let o3 = c .before .wide2 .ensures in
     let o0 = c .before .before .before .wide .ensures in
-    c .wrong-fixed .ensures ∙ ap (wrongFixed (startF c .args .edition) (c .before .before .before .wide .result)) o3 ∙ ap (λ (o : ℕ). wrongFixed (startF c .args .edition) o (octetAt (p (startF c)) 3)) o0
+    let v = startF c .args .edition in
+    c .wrong-fixed .ensures ∙ ap (wrongFixed v (c .before .before .before .wide .result)) o3 ∙ ap (λ (o : ℕ). wrongFixed v o (octetAt (p (startF c)) 3)) o0
 
 fixed-right : (c : tie.Else1) → wrongFixed (startF (c .before) .args .edition) (octetAt (p (startF (c .before))) 0) (octetAt (p (startF (c .before))) 3) ≡ false
 fixed-right c = sym (fixed (c .before)) ∙ c .if1 .left

@@ -144,7 +144,8 @@ returns c =
     let header = h .before .before .before .before .before .before .before .put-header .ensures in
     let counted-in = h .before .before .before .before .before .before .before .before .trailer-length .ensures in
     let identity = h .before .before .before .put-identity .ensures in
-    (omega (arith, h-is h, len-is d, total s), front-puts (s .args .buf .now) (s .args .at) (nak s) (omega (arith, len-is d, data-is s, counted-in)) place header identity field (omega (arith, h-is h, room s)))
+    let xs = s .args .buf .now in
+    (omega (arith, h-is h, len-is d, total s), front-puts xs (s .args .at) (nak s) (omega (arith, len-is d, data-is s, counted-in)) place header identity field (omega (arith, h-is h, room s)))
 
 pub put-front-spec : {M : Type 1} → statement M
 put-front-spec =

@@ -1,6 +1,6 @@
 -- `nak_checks::inner::lengths::per_pdu` meets its contract: there is room for one request, so no difference falls below 0.
 use native.Mathlib.Omega.{arith}
-use Prim.Native.Nat.{ℕ, _+_, _*_, _≤_}
+use Prim.Native.Nat.{_+_, _*_, _≤_}
 use borrow.Author.Needs.{needs}
 use Rattle.nak.proofs.Room.{field-low, field-high, one-room}
 use Rattle.nak_checks.proofs.inner.lengths.per_pdu.Statement.{statement}
