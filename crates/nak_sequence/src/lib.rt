@@ -8,8 +8,8 @@ ghost use Rattle.sequence.specs.Sequence.{sequenceChecks, sequenceCase, sequenc
 use events::inner::record_checks;
 use nak::Form;
 use nak::Identity;
-use nak::inner::bad_identity;
-use nak::inner::lengths::per_pdu;
+use nak_checks::inner::bad_identity;
+use nak_checks::inner::lengths::per_pdu;
 use outcomes::Refusal;
 use outcomes::Verdict;
 use reception::Reception;

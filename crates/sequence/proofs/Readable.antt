@@ -20,8 +20,8 @@ use Rattle.nak.specs.Request.{isMetadata, checksFrom, requestsChecks}
 use Rattle.outcomes.specs.Checks.{NoneOf}
 use Rattle.nak.specs.Writer.{nakOutcome}
 use Rattle.nak.proofs.Checks.{NakFine, fine-nak}
-use Rattle.nak_parser.specs.Parser.{Says, readOutcome}
-use Rattle.nak_parser.proofs.RoundTrip.{parsed-says, pdu-accepted, read-pdu}
+use Rattle.nak_parsing.specs.Parser.{Says, readOutcome}
+use Rattle.nak_parsing.proofs.RoundTrip.{parsed-says, pdu-accepted, read-pdu}
 use Rattle.reception.specs.Record.{Passed}
 use Rattle.reception.proofs.Sound.{sound}
 use Rattle.reception.specs.declared.Reception.{Reception}

@@ -41,18 +41,18 @@ use denote.Triple.Table.{entered, cited}
 use denote.Triple.Walked.{says, Stays, stay-none, walkOf, goes-none, Walks, ends-at, walked, walk-meets}
 use denote.Exit.{yes}
 use denote.Triple.Clauses.{ensured, lasts}
-use Rattle.nak_parser.specs.Step.{stepCase, stepOutcome, placeAfter}
+use Rattle.nak_parsing.specs.Step.{stepCase, stepOutcome, placeAfter}
 use Rattle.nak_reader.specs.declared.NakReader.{NakReader}
 use Rattle.nak_reader.proofs.NakReader as T
 use Rattle.nak_reader.proofs.NakReader.Laws as T′
 use Rattle.nak_reader.specs.declared.Taken.{Taken}
 use Rattle.nak_reader.proofs.Taken as P
 use Rattle.nak_reader.proofs.Taken.Laws as P′
-use Rattle.nak_parser.specs.declared.Found.{Found}
-use Rattle.nak_parser.proofs.Found as F
-use Rattle.nak_parser.proofs.Found.Laws as F′
-use Rattle.nak_parser.proofs.Step as S
-use Rattle.nak_parser.proofs.Step.Laws as S′
+use Rattle.nak_parsing.specs.declared.Found.{Found}
+use Rattle.nak_parsing.proofs.Found as F
+use Rattle.nak_parsing.proofs.Found.Laws as F′
+use Rattle.nak_parsing.proofs.Step as S
+use Rattle.nak_parsing.proofs.Step.Laws as S′
 use Rattle.nak_parser.proofs.next_at as at′
 use Rattle.nak_parser.proofs.next_at.Symbol as at′-def
 use Rattle.nak_parser.proofs.next_at.Symbol.{name as #nak_parser·next-at}

@@ -42,17 +42,17 @@ use denote.Triple.Clauses.{ensured, lasts}
 use Rattle.nak.specs.declared.Edition.{Edition}
 use Rattle.nak.proofs.Edition as E
 use Rattle.nak.proofs.Edition.Laws as E′
-use Rattle.nak_parser.specs.Parser.{parsedOf, requestsPart, requestsPtr}
+use Rattle.nak_parsing.specs.Parser.{parsedOf, requestsPart, requestsPtr}
 use Rattle.nak_reader.specs.declared.NakReader.{NakReader}
-use Rattle.nak_parser.proofs.ParsedOf.{part-of}
+use Rattle.nak_parsing.proofs.ParsedOf.{part-of, part-ptr}
 use Rattle.nak_reader.proofs.NakReader as T
 use Rattle.nak_reader.proofs.NakReader.Laws as T′
 use Rattle.nak_reader.specs.declared.ReadNak.{ReadNak}
 use Rattle.nak_reader.proofs.ReadNak as K
 use Rattle.nak_reader.proofs.ReadNak.Laws as K′
-use Rattle.nak_parser.specs.declared.Parsed.{Parsed}
-use Rattle.nak_parser.proofs.Parsed as Q
-use Rattle.nak_parser.proofs.Parsed.Laws as Q′
+use Rattle.nak_parsing.specs.declared.Parsed.{Parsed}
+use Rattle.nak_parsing.proofs.Parsed as Q
+use Rattle.nak_parsing.proofs.Parsed.Laws as Q′
 use Rattle.nak_parser.proofs.parse as ps
 use Rattle.nak_parser.proofs.parse.Symbol as ps-def
 use Rattle.nak_parser.proofs.parse.Symbol.{name as #nak_parser·parse}
@@ -134,7 +134,7 @@ module _ {M : Type 1} (𝓤 : URA M) (H : Heap 𝓤) (A : Atoms 𝓤) (W : Given
   within r e = rw e (part-of ed (now s) .ordered, part-of ed (now s) .inside)
 
   part-is : (r : Parsed) (t : RefT (List ℕ)) → Said₁ r → Said₂ r t → (now t ≡ requestsPart ed (now s)) × (ptr t ≡ requestsPtr ed s)
-  part-is r t e e′ = ((rw e at (e′ .0)) ∙ part-of ed (now s) .octets, (rw e at (e′ .1)) ∙ ap (λ (n : ℕ). (ptr s .0, n + ptr s .1)) (part-of ed (now s) .from))
+  part-is r t e e′ = ((rw e at (e′ .0)) ∙ part-of ed (now s) .octets, (rw e at (e′ .1)) ∙ part-ptr ed s)
 
   -- the reader, and the result, of what the calls gave
   abbrev at-place : ℕ → NakReader

@@ -39,13 +39,13 @@ use denote.Triple.Clauses.{ensured, lasts}
 use Rattle.nak.specs.declared.Edition.{Edition}
 use Rattle.nak.proofs.Edition as E
 use Rattle.nak.proofs.Edition.Laws as E′
-use Rattle.nak_parser.specs.Parser.{parsedOf, requestsPart, requestsPtr}
+use Rattle.nak_parsing.specs.Parser.{parsedOf, requestsPart, requestsPtr}
 use Rattle.nak_reader.specs.Reader.{readerOf}
 use Rattle.nak_reader.specs.declared.ReadNak.{ReadNak}
 use Rattle.nak_reader.proofs.ReadNak as K
 use Rattle.nak_reader.proofs.ReadNak.Laws as K′
-use Rattle.nak_parser.proofs.Parsed as Q
-use Rattle.nak_parser.proofs.Parsed.Laws as Q′
+use Rattle.nak_parsing.proofs.Parsed as Q
+use Rattle.nak_parsing.proofs.Parsed.Laws as Q′
 use Rattle.nak_reader.proofs.read as rd
 use Rattle.nak_reader.proofs.read.Symbol as rd-def
 use Rattle.nak_reader.proofs.read.Symbol.{name as #nak_reader·read}

@@ -38,7 +38,7 @@ use denote.Triple.Table.{entered, cited}
 use denote.Triple.Walked.{says, Stays, stay-none, stay-none-slice, walkOf, goes-none, goes-none-slice, Walks, ends-at, walked, walk-meets}
 use denote.Exit.{yes}
 use denote.Triple.Clauses.{ensured, lasts}
-use Rattle.nak_parser.specs.Step.{stepCase, stepOutcome}
+use Rattle.nak_parsing.specs.Step.{stepCase, stepOutcome}
 use Rattle.nak_reader.specs.Reader.{readerAfter}
 use Rattle.nak_reader.specs.declared.NakReader.{NakReader}
 use Rattle.nak_reader.proofs.NakReader as T
@@ -46,11 +46,11 @@ use Rattle.nak_reader.proofs.NakReader.Laws as T′
 use Rattle.nak_reader.specs.declared.Taken.{Taken}
 use Rattle.nak_reader.proofs.Taken as P
 use Rattle.nak_reader.proofs.Taken.Laws as P′
-use Rattle.nak_parser.specs.declared.Found.{Found}
-use Rattle.nak_parser.proofs.Found as F
-use Rattle.nak_parser.proofs.Found.Laws as F′
-use Rattle.nak_parser.proofs.Step as S
-use Rattle.nak_parser.proofs.Step.Laws as S′
+use Rattle.nak_parsing.specs.declared.Found.{Found}
+use Rattle.nak_parsing.proofs.Found as F
+use Rattle.nak_parsing.proofs.Found.Laws as F′
+use Rattle.nak_parsing.proofs.Step as S
+use Rattle.nak_parsing.proofs.Step.Laws as S′
 use Rattle.nak_reader.proofs.next_request as nx
 use Rattle.nak_reader.proofs.next_request.Symbol as nx-def
 use Rattle.nak_reader.proofs.next_request.Symbol.{name as #nak_reader·next-request}
