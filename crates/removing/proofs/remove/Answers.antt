@@ -24,8 +24,8 @@ use Rattle.ranges.proofs.Cutting.{cut-told, full-told}
 use Rattle.ranges.proofs.Gone.{gone-took}
 use Rattle.ranges.proofs.Holder.{one-holder}
 use Rattle.segment_store.specs.Remove.{partOf, indexOf, removeFrom}
-use Rattle.lost_segments.specs.Inner.{partNumber}
-use Rattle.lost_segments.proofs.remove.Found.{found-inside, found-shares, found-behind}
+use Rattle.removing.specs.Inner.{partNumber}
+use Rattle.removing.proofs.remove.Found.{found-inside, found-shares, found-behind}
 
 part-numbered : (p : Part) (a b s e : ℕ) → s ≤ a → b ≤ e → Took p a b s e → partNumber p ≡ partOf a b (range s e)
 part-numbered part.Whole a b s e u v h = rw (eq-eqb a s (omega (arith, h .0)), eq-eqb b e (omega (arith, h .1)))

@@ -21,8 +21,8 @@ use Rattle.segment_store.specs.declared.Store.{Store}
 use Rattle.segment_store.specs.Insert.{insertLeaves, insertChecks, insertInto, Enters}
 use Rattle.segment_store.proofs.insert.Runs.{runs-inserted}
 use Rattle.segment_store.proofs.insert.Meaning.{enters-of, of-enters}
-use Rattle.lost_segments.proofs.insert.insert.Statement.{statement}
-use Rattle.lost_segments.proofs.insert.insert.Tie as tie
+use Rattle.adding.proofs.insert.insert.Statement.{statement}
+use Rattle.adding.proofs.insert.insert.Tie as tie
 
 -- what the call begins with
 abbrev st : tie.After-insert-checks → Store

@@ -15,8 +15,8 @@ use Rattle.segment_store.specs.declared.Store.{Store}
 use Rattle.segment_store.specs.Add.{addChecks, Takes}
 use Rattle.outcomes.proofs.Ends.{checks-passed, refused-end, passed-end}
 use Rattle.segment_store.proofs.add.Meaning.{takes-of, of-takes}
-use Rattle.lost_segments.proofs.add.add.Statement.{statement}
-use Rattle.lost_segments.proofs.add.add.Tie as tie
+use Rattle.adding.proofs.add.add.Statement.{statement}
+use Rattle.adding.proofs.add.add.Tie as tie
 
 -- what the call begins with
 abbrev st : tie.After-add-checks → Store

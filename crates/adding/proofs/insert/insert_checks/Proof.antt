@@ -10,8 +10,8 @@ use Rattle.ranges.specs.Range.{isCoalesced}
 use Rattle.ranges.specs.Store.{counted, limitOf}
 use Rattle.segment_store.specs.declared.Store.{Store}
 use Rattle.segment_store.specs.Checks.{isBad}
-use Rattle.lost_segments.proofs.insert.insert_checks.Statement.{statement}
-use Rattle.lost_segments.proofs.insert.insert_checks.Tie as tie
+use Rattle.adding.proofs.insert.insert_checks.Statement.{statement}
+use Rattle.adding.proofs.insert.insert_checks.Tie as tie
 
 -- what the call begins with, and the width's limit
 abbrev st : tie.After-check → Store

@@ -12,8 +12,8 @@ use Rattle.segment_store.specs.declared.Store.{Store}
 use Rattle.segment_store.specs.Remove.{removeCase, removeChecks, removeFrom, Passes}
 use Rattle.outcomes.proofs.Ends.{checks-passed, refused-end, passed-end}
 use Rattle.segment_store.proofs.remove.Meaning.{passes-of, of-passes}
-use Rattle.lost_segments.proofs.remove.remove.Statement.{statement}
-use Rattle.lost_segments.proofs.remove.remove.Tie as tie
+use Rattle.removing.proofs.remove.remove.Statement.{statement}
+use Rattle.removing.proofs.remove.remove.Tie as tie
 
 -- what the call begins with
 abbrev st : tie.After-remove-checks → Store

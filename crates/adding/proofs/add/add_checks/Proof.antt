@@ -9,8 +9,8 @@ use borrow.Author.Tests.{eq-eqb, ne-eqb, lt-ltb, le-ltb}
 use Rattle.ranges.specs.Store.{limitOf}
 use Rattle.segment_store.specs.declared.Store.{Store}
 use Rattle.segment_store.specs.Checks.{isBad}
-use Rattle.lost_segments.proofs.add.add_checks.Statement.{statement}
-use Rattle.lost_segments.proofs.add.add_checks.Tie as tie
+use Rattle.adding.proofs.add.add_checks.Statement.{statement}
+use Rattle.adding.proofs.add.add_checks.Tie as tie
 
 -- what the call begins with, and the width's limit
 abbrev st : tie.After-bad-store → Store

@@ -1,7 +1,7 @@
 -- `removed` meets its contract, case by case.
 use borrow.Author.Needs.{needs}
-use Rattle.lost_segments.proofs.remove.removed.Statement.{statement}
-use Rattle.lost_segments.proofs.remove.removed.Tie as tie
+use Rattle.removing.proofs.remove.removed.Statement.{statement}
+use Rattle.removing.proofs.remove.removed.Tie as tie
 
 enum-told : tie.Need-enum-told
 enum-told c = search needs

@@ -10,9 +10,9 @@ use Rattle.ranges.specs.Range.{Coalesced}
 use Rattle.ranges.specs.Store.{counted, capacity, startAt, endAt}
 use Rattle.ranges.specs.Without.{without}
 use Rattle.ranges.specs.Inner.Cut.{first, goneOf, cutAnswer, cutList}
-use Rattle.lost_segments.proofs.remove.Answers.{past-all, before-it, boundary, behind-it, inside-room, inside-full}
-use Rattle.lost_segments.proofs.remove.remove_coalesced.Statement.{statement}
-use Rattle.lost_segments.proofs.remove.remove_coalesced.Tie as tie
+use Rattle.removing.proofs.remove.Answers.{past-all, before-it, boundary, behind-it, inside-room, inside-full}
+use Rattle.removing.proofs.remove.remove_coalesced.Statement.{statement}
+use Rattle.removing.proofs.remove.remove_coalesced.Tie as tie
 
 -- what the call begins with, and the place found
 abbrev start : tie.After-first-past → tie.Start

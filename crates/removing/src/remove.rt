@@ -8,7 +8,7 @@ ghost use Rattle.ranges.specs.Without.{without};
 ghost use Rattle.ranges.specs.Store.{counted, capacity, stored, mostNumbers};
 ghost use Rattle.outcomes.specs.Outcome.{accepted, lent};
 ghost use Rattle.outcomes.specs.Checks.{firstOf, verdictCase};
-ghost use Rattle.lost_segments.specs.Inner.{partNumber};
+ghost use Rattle.removing.specs.Inner.{partNumber};
 ghost use Rattle.segment_store.specs.Remove.{removeCase, removeChecks, removeFrom, removeOutcome, removeList};
 use cutting::inner::cut;
 use lists::inner::pairs::end_at;
