@@ -1,4 +1,4 @@
-// Inner: the checks of a record. A function asks for what its callers have checked, so none is a public call.
+// Inner: the checks of a record, some of which ask for what their callers have checked. None is a public call.
 ghost use mathlib.Core.Path.{_≡_};
 ghost use mathlib.Core.Bool.{false, _&&_, _||_, not};
 ghost use mathlib.Core.List.{[]};
