@@ -32,7 +32,8 @@ pub extern "C" fn pusmarke_write(
     requests: &[u64],
     buf: &mut [u8],
 ) -> PusmarkeAnswer
-    ensures { λ r. ⌜ r ≡ answerOf (writeOutcome (now (requests .entry)) (saying (formIn form) (identityIn identity) «scope_start» «scope_end» (pairs (now (requests .entry)))) (length (now (buf .entry)))) ⌝ }
+    ensures { λ r. ⌜ r ≡ answerOf (writeOutcome (now (requests .entry)) (saying (formIn form) (identityIn identity) «scope_start» «scope_end» (pairs (now (requests .entry))))
+        (length (now (buf .entry)))) ⌝ }
     ensures { λ _. ⌜ now (buf .exit) ≡ written (now (requests .entry)) (saying (formIn form) (identityIn identity) «scope_start» «scope_end» (pairs (now (requests .entry)))) (now (buf .entry)) ⌝ }
 {
     let own = identity_in(identity);

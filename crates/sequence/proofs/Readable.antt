@@ -184,7 +184,8 @@ module _ (rec : Reception) (xs : List ℕ) (o : Order) (ps : Passed xs rec) (ok 
         reserved = ok .reserved;
         scope = scope-ordered (rec .missing) (rec .progress) (a .each) (counted xs (rec .count)) (each-low o (ok .size)) whole within (o .form) (o .identity) f;
         requests = entries-fine (rec .missing) (rec .progress) (a .each) f (counted xs (rec .count)) within;
-        numbers = numbers-fine (rec .missing) (rec .progress) (a .each) (counted xs (rec .count)) (each-low o (ok .size)) whole within (o .form) (o .identity) f (small-progress rec xs (o .form) (ok .numbers));
+        numbers = numbers-fine (rec .missing) (rec .progress) (a .each) (counted xs (rec .count)) (each-low o (ok .size)) whole within (o .form) (o .identity) f
+            (small-progress rec xs (o .form) (ok .numbers));
         size = omega arith;
       }
 
