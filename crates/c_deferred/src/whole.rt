@@ -32,7 +32,8 @@ pub fn data_whole(
     length: u64,
     timer: PusmarkeDeferred,
 ) -> HeardOut
-    ensures { λ r. ⌜ (r .heard ≡ heardOut (dataOutcome (recordIn rec) (now (list .entry)) offset length) (timerOut (heard (timerIn timer) (stateOf (recordIn rec) (now (list .entry))) (Data offset length))))
+    ensures { λ r. ⌜ (r .heard ≡ heardOut (dataOutcome (recordIn rec) (now (list .entry)) offset length)
+        (timerOut (heard (timerIn timer) (stateOf (recordIn rec) (now (list .entry))) (Data offset length))))
         × ((r .rec ≡ advancedTo (dataRecord (recordIn rec) (now (list .entry)) offset length) rec)
         × (now (list .exit) ≡ dataList (recordIn rec) (now (list .entry)) offset length)) ⌝ }
 {

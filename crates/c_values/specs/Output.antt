@@ -8,7 +8,7 @@ use Rattle.octets.specs.declared.LargeFileFlag.{LargeFileFlag}
 use Rattle.octets.specs.declared.LargeFileFlag.the-variants.{Normal, Large}
 use Rattle.reception.specs.declared.Reception.{Reception}
 use Rattle.nak.specs.declared.Identity.{Identity}
-use Rattle.nak_parser.specs.declared.Parsed.{Parsed}
+use Rattle.nak_parsing.specs.declared.Parsed.{Parsed}
 use Rattle.c_values.specs.declared.PusmarkeReception.{PusmarkeReception}
 use Rattle.c_values.specs.declared.PusmarkeIdentity.{PusmarkeIdentity}
 use Rattle.c_values.specs.declared.PusmarkeNak.{PusmarkeNak}

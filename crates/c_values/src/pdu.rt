@@ -1,11 +1,11 @@
 // What reading and a step hand back.
 ghost use mathlib.Core.Path.{_≡_};
-ghost use Rattle.nak_parser.specs.Step.{stepCase};
+ghost use Rattle.nak_parsing.specs.Step.{stepCase};
 ghost use Rattle.c_values.specs.Output.{flagOut, identityOut, stepOut};
 use crate::PusmarkeIdentity;
 use crate::PusmarkeStep;
 use nak::Identity;
-use nak_parser::Step;
+use nak_parsing::Step;
 use octets::LargeFileFlag;
 
 pub fn flag_out(flag: LargeFileFlag) -> u64

@@ -14,9 +14,9 @@ use answers::PusmarkeAnswer;
 use answers::events::of_data;
 use answers::events::of_eof;
 use answers::events::of_metadata;
-use events::data::data_core;
-use events::eof::eof_core;
-use events::metadata::metadata_core;
+use event_cores::data::data_core;
+use event_cores::eof::eof_core;
+use event_cores::metadata::metadata_core;
 
 // What an event leaves: the answer, and C's record.
 pub struct EventOut {

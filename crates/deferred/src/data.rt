@@ -14,7 +14,7 @@ use deferring::Activity;
 use deferring::Deferred;
 use deferring::data::DataHeard;
 use deferring::data::DataHeardDone;
-use events::data::data_core;
+use event_cores::data::data_core;
 use holding::held::HeldAnswer;
 use reception::Reception;
 use reception::data::DataAnswer;

@@ -8,7 +8,7 @@ use crate::inner::hear;
 use deferring::Deferred;
 use deferring::eof::EofHeard;
 use deferring::eof::EofHeardDone;
-use events::eof::eof_core;
+use event_cores::eof::eof_core;
 use reception::Reception;
 use reception::eof::EofAnswer;
 

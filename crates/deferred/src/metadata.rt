@@ -8,7 +8,7 @@ use crate::inner::hear;
 use deferring::Deferred;
 use deferring::metadata::MetadataHeard;
 use deferring::metadata::MetadataHeardDone;
-use events::metadata::metadata_core;
+use event_cores::metadata::metadata_core;
 use reception::Reception;
 use reception::metadata::MetadataAnswer;
 

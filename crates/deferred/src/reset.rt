@@ -6,9 +6,9 @@ use crate::inner::restart;
 use deferring::Deferred;
 use deferring::reset::ResetAnswer;
 use deferring::reset::ResetDone;
-use events::inner::record_checks;
 use outcomes::Verdict;
 use reception::Reception;
+use record_checks::inner::record_checks;
 
 pub fn reset(timer: Deferred, rec: Reception, list: &[u64]) -> ResetDone
     ensures { λ r. ⌜ (resetCase (r .answer) ≡ resetOutcome rec (now (list .entry))) × (r .timer ≡ resetTimer timer rec (now (list .entry))) ⌝ }

@@ -8,7 +8,7 @@ use nak::Edition;
 use nak::Form;
 use nak::Identity;
 use nak::writer::WriteAnswer;
-use nak_parser::Step;
+use nak_parsing::Step;
 use octets::LargeFileFlag;
 use outcomes::Refusal;
 use ranges::Width;
@@ -65,7 +65,7 @@ fn normal_form() -> Form {
 fn show_write(buf: &mut [u8]) {
     let requests: [u64; 4] = [0, 0, 100, 200];
     let identity = example_identity();
-    let answer = nak::writer::write(identity, normal_form(), 0, 1000, &requests, buf);
+    let answer = nak_writer::write(identity, normal_form(), 0, 1000, &requests, buf);
     if let WriteAnswer::Refused(r) = answer {
         if let Refusal::BufferSizeMissmatch(needed, given) = r {
             write_all(STDOUT_FILENO, b"refused 6");

@@ -3,10 +3,10 @@ use mathlib.Core.Path.{_≡_, refl, sym, _∙_}
 use mathlib.Core.Bool.{Bool, true, false, _&&_, not, cond, true≢false}
 use mathlib.Core.List.{List, [], _∷_}
 use mathlib.Core.Logic.{_⊎_, inl, inr, ⊎-elim, _↔_}
-use Prim.Native.Nat.{ℕ, _+_, _≤_, _<_}
+use Prim.Native.Nat.{ℕ, _≤_, _<_}
 use native.Mathlib.Omega.{arith}
 use lib.Dec.{eqb, ltb}
-use borrow.Author.Tests.{eq-eqb, ne-eqb, eqb-true, eqb-false, le-ltb, ltb-false}
+use borrow.Author.Tests.{eq-eqb, ne-eqb, eqb-true, le-ltb, ltb-false}
 use Rattle.ranges.specs.Range.{Range}
 use Rattle.ranges.proofs.Test.{and-true}
 use Rattle.outcomes.specs.Checks.{NoneOf}

@@ -1,6 +1,6 @@
 -- What the checks of writing show: those of a NAK that is not refused, and of a PDU that was written.
 use mathlib.Core.Path.{_≡_, refl, sym, ap}
-use mathlib.Core.Bool.{false, not}
+use mathlib.Core.Bool.{true, false, not}
 use mathlib.Core.List.{List, [], _∷_, _++_, append-assoc}
 use Prim.Native.Nat.{ℕ, _*_, _/_, _%_, _^_, _≤_, _<_}
 use native.Mathlib.Omega.{arith}
@@ -169,6 +169,29 @@ write-refused xs n buf r e =
 pub write-passed : (xs : List ℕ) (n : Nak) (buf : List ℕ) → WriteFine xs n (length buf)
     → (accepted (length (pdu n) ∷ []) ≡ writeOutcome xs n (length buf)) × (pdu n ≡ written xs n buf)
 write-passed xs n buf f = rw (fine-write xs n (length buf) f) (refl, refl)
+
+-- which refusal comes first: 10; 13 where the list is right; 15 where the identity is too; and then 18
+module _ (xs : List ℕ) (n : Nak) (given : ℕ) (behind : Outcome) where
+  pub list-first : isBadList xs ≡ true → firstOf (writeChecks xs n given) behind ≡ refusing refusal.BadStore
+  list-first a = rw a
+
+  pub identity-first : isBadList xs ≡ false → isBadIdentity (n .identity) ≡ true → firstOf (writeChecks xs n given) behind ≡ refusing refusal.BadIdentity
+  identity-first a b = rw (a, b)
+
+  pub reserved-first :
+      isBadList xs ≡ false
+      → isBadIdentity (n .identity) ≡ false
+      → isReservedSet (n .form .edition) (n .form .flag) ≡ true
+      → firstOf (writeChecks xs n given) behind ≡ refusing refusal.BadHeader
+  reserved-first a b r = rw (a, b, r)
+
+  pub scope-first :
+      isBadList xs ≡ false
+      → isBadIdentity (n .identity) ≡ false
+      → isReservedSet (n .form .edition) (n .form .flag) ≡ false
+      → n .scope .end < n .scope .start
+      → firstOf (writeChecks xs n given) behind ≡ refusing refusal.ScopeReversed
+  scope-first a b r c = rw (a, b, r, lt-ltb (n .scope .end) (n .scope .start) c)
 
 -- the checks of writing behind the requests: 7, 14, 6
 abbrev pub lastChecks : Nak → ℕ → List Check

@@ -2,7 +2,6 @@ pub mod Flat
 pub mod Requests
 pub mod Parts
 pub mod Room
-pub mod Puts
 pub mod Checks
 pub mod Injective
 pub mod Asks

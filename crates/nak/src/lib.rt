@@ -1,11 +1,11 @@
-// The NAK PDU: written from what it says, and read (CCSDS 727.0-B-5, PDU header and 5.2.6).
+// The NAK PDU (CCSDS 727.0-B-5, PDU header and 5.2.6): what it is made of. The calls are in the crates nak_writer, nak_parser and
+// nak_reader.
 use octets::LargeFileFlag;
 ghost use mathlib.Core.Path.{_≡_};
 ghost use Rattle.octets.specs.Flag.{fieldLength, largestOf};
 ghost use Rattle.nak.specs.Header.{isReservedSet};
 ghost use Rattle.nak.specs.Pdu.{trailerLength};
 
-pub mod inner;
 pub mod writer;
 
 // A PDU has at most 4,096 octets.

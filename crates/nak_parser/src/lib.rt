@@ -1,32 +1,24 @@
 // Reading one NAK PDU into plain values.
 use nak::Edition;
-use nak::Form;
-use nak::Identity;
 use nak::LARGEST_PDU;
+use nak_header::inner::flag_of;
+use nak_header::inner::trailer_of;
+use nak_parsing::Found;
+use nak_parsing::Parsed;
+use nak_parsing::Step;
+use nak_shape::inner::header_in;
+use nak_shape::inner::identity_in;
+use nak_shape::inner::shape;
+use nak_shape::inner::wide;
 use octets::inner::get;
 use outcomes::Refusal;
 use outcomes::Verdict;
 ghost use mathlib.Core.Path.{_≡_};
 ghost use denote.Ref.{ptr};
-ghost use Rattle.nak_parser.specs.Parser.{parsedOf, requestsPart, requestsPtr};
-ghost use Rattle.nak_parser.specs.Step.{stepCase, stepOutcome, placeAfter};
+ghost use Rattle.nak_parsing.specs.Parser.{parsedOf, requestsPart, requestsPtr};
+ghost use Rattle.nak_parsing.specs.Step.{stepCase, stepOutcome, placeAfter};
 
 pub mod inner;
-
-// What reading hands back: the refusal's number, 0 where the packet is accepted, and the start and end that it carries; what the
-// packet says; where its requests stand, and where a reader of them starts.
-pub struct Parsed {
-    pub refusal: u64,
-    pub start: u64,
-    pub end: u64,
-    pub identity: Identity,
-    pub form: Form,
-    pub scope_start: u64,
-    pub scope_end: u64,
-    pub from: usize,
-    pub to: usize,
-    pub next: usize,
-}
 
 // Reads any octets of any length, on a link of this edition.
 pub fn parse(packet: &[u8], edition: Edition) -> Parsed
@@ -36,8 +28,8 @@ pub fn parse(packet: &[u8], edition: Edition) -> Parsed
     if total < 4 {
         return inner::refused(edition, Refusal::LengthMismatch, total);
     }
-    let header = inner::header_in(packet, edition);
-    let shape = inner::shape(packet, edition, header);
+    let header = header_in(packet, edition);
+    let shape = shape(packet, edition, header);
     if let Verdict::Refused(r) = shape {
         return inner::refused(edition, r, total);
     }
@@ -58,7 +50,7 @@ pub fn parse(packet: &[u8], edition: Edition) -> Parsed
     if LARGEST_PDU < total {
         return inner::refused(edition, Refusal::PduSize, total);
     }
-    let identity = inner::identity_in(packet, header);
+    let identity = identity_in(packet, header);
     Parsed {
         refusal: 0,
         start: 0,
@@ -81,18 +73,6 @@ pub fn requests<'a>(packet: &'a [u8], edition: Edition) -> &'a [u8]
     inner::part(packet, parsed.from, parsed.to)
 }
 
-// What a step of a reader finds.
-pub enum Step {
-    Request(u64, u64),
-    End,
-}
-
-// And the place after it.
-pub struct Found {
-    pub step: Step,
-    pub at: usize,
-}
-
 // A step from any place of any octets.
 pub fn next_at(packet: &[u8], at: usize) -> Found
     ensures { λ r. ⌜ (stepCase (r .step) ≡ stepOutcome (now (packet .entry)) at) × (r .at ≡ placeAfter (now (packet .entry)) at) ⌝ }
@@ -104,10 +84,10 @@ pub fn next_at(packet: &[u8], at: usize) -> Found
             at,
         };
     }
-    let octet = inner::wide(packet[0]);
-    let flag = inner::flag_of(octet);
+    let octet = wide(packet[0]);
+    let flag = flag_of(octet);
     let f = flag.field_length();
-    let t = inner::trailer_of(octet);
+    let t = trailer_of(octet);
     if total - at < 2 * f + t {
         return Found {
             step: Step::End,

@@ -2,9 +2,9 @@
 -- given whole, and of the part of the requests the octets and where they lie, which is all that its machine value has.
 use mathlib.Core.Path.{_≡_, sym, ap, _∙_}
 use denote.Ref.{now}
-use Rattle.nak_parser.specs.declared.Step.{Step}
-use Rattle.nak_parser.specs.Step.{stepCase, stepOutcome}
-use Rattle.nak_parser.proofs.Stepping.{step-injective}
+use Rattle.nak_parsing.specs.declared.Step.{Step}
+use Rattle.nak_parsing.specs.Step.{stepCase, stepOutcome}
+use Rattle.nak_parsing.proofs.Stepping.{step-injective}
 use Rattle.nak_reader.specs.declared.NakReader.{NakReader}
 use Rattle.nak_reader.specs.declared.Taken.{Taken}
 use Rattle.nak_reader.specs.Reader.{readerAfter}

@@ -6,9 +6,9 @@ use lib.ListN.{length, replicate}
 use denote.Ref.{RefT, now}
 use Rattle.outcomes.specs.Outcome.{Outcome, accepted}
 use Rattle.nak.specs.declared.Edition.{Edition}
-use Rattle.nak_parser.specs.Step.{stepOutcome, steps, eachRequest, requestsGiven}
-use Rattle.nak_parser.proofs.ParsedOf.{part-of}
-use Rattle.nak_parser.proofs.Stepping.{stepping}
+use Rattle.nak_parsing.specs.Step.{stepOutcome, steps, eachRequest, requestsGiven}
+use Rattle.nak_parsing.proofs.ParsedOf.{part-of}
+use Rattle.nak_parsing.proofs.Stepping.{stepping}
 use Rattle.nak_reader.specs.declared.NakReader.{NakReader}
 use Rattle.nak_reader.specs.Reader.{readerOf, readerAfter, readings}
 

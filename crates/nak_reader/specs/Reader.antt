@@ -5,8 +5,8 @@ use lib.ListN.{length}
 use denote.Ref.{RefT, now}
 use Rattle.outcomes.specs.Outcome.{Outcome, lent}
 use Rattle.nak.specs.declared.Edition.{Edition}
-use Rattle.nak_parser.specs.Parser.{requestsAt, readOutcome}
-use Rattle.nak_parser.specs.Step.{stepOutcome, placeAfter}
+use Rattle.nak_parsing.specs.Parser.{requestsAt, readOutcome}
+use Rattle.nak_parsing.specs.Step.{stepOutcome, placeAfter}
 use Rattle.nak_reader.specs.declared.NakReader.{NakReader}
 
 -- The reader of a packet: the caller's own octets, at the first request; of a refused packet, at its end.

@@ -1,12 +1,12 @@
 // A reader over the caller's octets. The struct is taken apart in few, thin functions; the work is in `nak_parser`.
 use nak::Edition;
-use nak_parser::Found;
-use nak_parser::Parsed;
-use nak_parser::Step;
+use nak_parsing::Found;
+use nak_parsing::Parsed;
+use nak_parsing::Step;
 ghost use mathlib.Core.Path.{_≡_};
 ghost use denote.Ref.{ptr};
-ghost use Rattle.nak_parser.specs.Parser.{parsedOf, requestsPart, requestsPtr};
-ghost use Rattle.nak_parser.specs.Step.{stepCase, stepOutcome, placeAfter};
+ghost use Rattle.nak_parsing.specs.Parser.{parsedOf, requestsPart, requestsPtr};
+ghost use Rattle.nak_parsing.specs.Step.{stepCase, stepOutcome, placeAfter};
 ghost use Rattle.nak_reader.specs.Reader.{readerOf, readerAfter};
 
 // The caller's packet, and the place of the next request.

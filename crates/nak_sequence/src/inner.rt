@@ -14,8 +14,8 @@ ghost use Rattle.nak_sequence.specs.Inner.{entryCount, Listed};
 use nak::Form;
 use nak::Identity;
 use nak::LARGEST_PDU;
-use nak::inner::lengths::too_small;
-use nak::inner::write_at;
+use nak_checks::inner::lengths::too_small;
+use nak_writer::inner::write_at;
 use reception::Reception;
 
 // The smaller of two numbers.

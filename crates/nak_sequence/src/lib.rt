@@ -5,14 +5,14 @@ ghost use lib.ListN.{length};
 ghost use Rattle.outcomes.specs.Outcome.{accepted};
 ghost use Rattle.outcomes.specs.Checks.{verdictCase, firstOf};
 ghost use Rattle.sequence.specs.Sequence.{sequenceChecks, sequenceCase, sequenceOutcome, sequenceBuffer, order};
-use events::inner::record_checks;
 use nak::Form;
 use nak::Identity;
-use nak::inner::bad_identity;
-use nak::inner::lengths::per_pdu;
+use nak_checks::inner::bad_identity;
+use nak_checks::inner::lengths::per_pdu;
 use outcomes::Refusal;
 use outcomes::Verdict;
 use reception::Reception;
+use record_checks::inner::record_checks;
 use sequence::SequenceAnswer;
 
 pub mod inner;

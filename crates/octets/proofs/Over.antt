@@ -29,7 +29,8 @@ unfolding withOctets
 over-join xs at m a b e h =
     let p : length (take at xs ++ a) ≡ m = length-append (take at xs) a ∙ rw (length-take-le at xs (omega arith)) e in
     let d : drop (m + length b) (take at xs ++ a ++ drop (at + length a) xs) ≡ drop (at + length (a ++ b)) xs =
-    sym (drop-drop (length b) m (take at xs ++ a ++ drop (at + length a) xs)) ∙ ap (drop (length b)) (drop-at (take at xs ++ a) (drop (at + length a) xs) m p) ∙ drop-drop (length b) (at + length a) xs ∙ rw (length-append a b, add-assoc) in
+    sym (drop-drop (length b) m (take at xs ++ a ++ drop (at + length a) xs)) ∙ ap (drop (length b)) (drop-at (take at xs ++ a) (drop (at + length a) xs) m p) ∙
+    drop-drop (length b) (at + length a) xs ∙ rw (length-append a b, add-assoc) in
     rw (take-at (take at xs ++ a) (drop (at + length a) xs) m p, d) (simp append-assoc)
 
 -- the same of three lists, each the one before it once it was written over

@@ -5,7 +5,8 @@ use borrow.Author.Tests.{eq-eqb, ne-eqb, ltb-true, ltb-false, lt-ltb}
 use mathlib.Core.Path.{refl, sym, ap, _≡_, ap₂, _∙_}
 use mathlib.Core.List.{List, _∷_, _++_, append-assoc, append-nil}
 use Prim.Native.Nat.{ℕ, suc, _+_, _*_, _/_, _%_, _^_, _≤_, _<_}
-use native.Mathlib.Nat.{add-zero, add-suc, pow-suc, pow-le-pow-right, mul-suc, mul-le-mul-left, div-div-eq-div-mul, one-le-pow, div-eq-of-lt, lt-div-mul-add, lt-irrefl, lt-of-lt-of-le, zero-mul, zero-add}
+use native.Mathlib.Nat.{add-zero, add-suc, pow-suc, pow-le-pow-right, mul-suc, mul-le-mul-left, div-div-eq-div-mul, one-le-pow, div-eq-of-lt, lt-div-mul-add, lt-irrefl}
+use native.Mathlib.Nat.{lt-of-lt-of-le, zero-mul, zero-add}
 use native.Mathlib.Numerals.{add-one}
 use native.Mathlib.Omega.{arith}
 use lib.ListN.{length, getD, take, drop, set, length-set, length-drop, take-append-drop}
@@ -29,7 +30,8 @@ put-none xs at v = rw (append-nil, add-zero, take-append-drop)
 pub put-turn : (xs : List ℕ) (at f v : ℕ) → at + f < length xs → putting (set xs (at + f) (v % 256)) at f (v / 256) ≡ putting xs at (suc f) v
 put-turn xs at f v h =
     let d : drop (at + f) (set xs (at + f) (v % 256)) ≡ v % 256 ∷ drop (at + suc f) xs =
-    drop-cons (set xs (at + f) (v % 256)) (at + f) 0 (rw length-set h) ∙ ap₂ (λ (x : ℕ) (l : List ℕ). x ∷ l) (getD-set-same xs (at + f) (v % 256) 0 h) (drop-set-lt (suc (at + f)) xs (at + f) (v % 256) (omega arith) ∙ rw add-suc) in
+    drop-cons (set xs (at + f) (v % 256)) (at + f) 0 (rw length-set h) ∙ ap₂ (λ (x : ℕ) (l : List ℕ). x ∷ l) (getD-set-same xs (at + f) (v % 256) 0 h)
+    (drop-set-lt (suc (at + f)) xs (at + f) (v % 256) (omega arith) ∙ rw add-suc) in
     rw (take-set-le at xs (at + f) (v % 256) (omega arith), d) (simp append-assoc)
 
 -- one octet more is got
@@ -49,13 +51,15 @@ room-more i v o h k m =
     omega (arith, room i v o k m)
 
 -- one number more is put
-pub put-all-turn : (xs list : List ℕ) (at f from i : ℕ) → at + (f * i + f) ≤ length xs → from + i < length list → withOctets (withOctets xs at (fields f (take i (drop from list)))) (at + f * i) (field f (getD list (from + i) 0)) ≡ withOctets xs at (fields f (take (i + 1) (drop from list)))
+pub put-all-turn : (xs list : List ℕ) (at f from i : ℕ) → at + (f * i + f) ≤ length xs → from + i < length list
+    → withOctets (withOctets xs at (fields f (take i (drop from list)))) (at + f * i) (field f (getD list (from + i) 0)) ≡ withOctets xs at (fields f (take (i + 1) (drop from list)))
 put-all-turn xs list at f from i h k =
     let d = length-drop from list in
     let vs = take i (drop from list) in
     let n : length vs ≡ i = length-take-le i (drop from list) (omega arith) in
     let l : length (fields f vs) ≡ f * i = rw n at (length-fields f vs) in
-    let e : fields f (take (i + 1) (drop from list)) ≡ fields f vs ++ field f (getD list (from + i) 0) = rw (add-one, take-suc (drop from list) i 0 (omega arith), fields-append f vs, append-nil, getD-drop from list i 0) in
+    let e : fields f (take (i + 1) (drop from list)) ≡ fields f vs ++ field f (getD list (from + i) 0) = rw
+    (add-one, take-suc (drop from list) i 0 (omega arith), fields-append f vs, append-nil, getD-drop from list i 0) in
     over-join xs at (at + f * i) (fields f vs) (field f (getD list (from + i) 0)) (omega arith) (omega arith) ∙ ap (λ (os : List ℕ). withOctets xs at os) (sym e)
 
 -- the octets of n numbers leave room for the one at i

@@ -9,7 +9,7 @@ ghost use Rattle.pooling.specs.Pool.{recordAt};
 ghost use Rattle.pooling.specs.Share.{poolChecks, ownList};
 ghost use Rattle.pooling.specs.Events.{eventOutcome, eventPool, eventList};
 use crate::inner::with_record;
-use events::data::data_checks;
+use event_checks::data::data_checks;
 use inserting::inner::larger;
 use outcomes::Refusal;
 use outcomes::Verdict;

@@ -9,7 +9,7 @@ ghost use Rattle.pooling.specs.Pool.{recordAt};
 ghost use Rattle.pooling.specs.Share.{poolChecks, ownList};
 ghost use Rattle.pooling.specs.Events.{eventOutcome, eventPool, eventList};
 use crate::inner::with_record;
-use events::eof::eof_checks;
+use event_checks::eof::eof_checks;
 use outcomes::Refusal;
 use outcomes::Verdict;
 use pooling::EofDone;

@@ -9,7 +9,7 @@ ghost use Rattle.pooling.specs.Pool.{recordAt};
 ghost use Rattle.pooling.specs.Share.{poolChecks, ownList};
 ghost use Rattle.pooling.specs.Events.{eventOutcome, eventPool};
 use crate::inner::with_record;
-use events::metadata::metadata_checks;
+use event_checks::metadata::metadata_checks;
 use outcomes::Verdict;
 use pooling::MetadataDone;
 use pooling::Pool;

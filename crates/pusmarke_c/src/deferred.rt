@@ -58,7 +58,8 @@ pub extern "C" fn pusmarke_deferred_data(
     length: u64,
     timer: PusmarkeDeferred,
 ) -> PusmarkeHeard
-    ensures { λ r. ⌜ (r ≡ heardOut (dataOutcome (recordIn (now (rec .entry))) (now (list .entry)) offset length) (timerOut (heard (timerIn timer) (stateOf (recordIn (now (rec .entry))) (now (list .entry))) (Data offset length))))
+    ensures { λ r. ⌜ (r ≡ heardOut (dataOutcome (recordIn (now (rec .entry))) (now (list .entry)) offset length)
+        (timerOut (heard (timerIn timer) (stateOf (recordIn (now (rec .entry))) (now (list .entry))) (Data offset length))))
         × ((now (rec .exit) ≡ advancedTo (dataRecord (recordIn (now (rec .entry))) (now (list .entry)) offset length) (now (rec .entry)))
         × (now (list .exit) ≡ dataList (recordIn (now (rec .entry))) (now (list .entry)) offset length)) ⌝ }
 {
@@ -75,7 +76,8 @@ pub extern "C" fn pusmarke_deferred_metadata(
     list: &[u64],
     timer: PusmarkeDeferred,
 ) -> PusmarkeHeard
-    ensures { λ r. ⌜ (r ≡ heardOut (metadataOutcome (recordIn (now (rec .entry))) (now (list .entry))) (timerOut (heard (timerIn timer) (stateOf (recordIn (now (rec .entry))) (now (list .entry))) Metadata)))
+    ensures { λ r. ⌜ (r ≡ heardOut (metadataOutcome (recordIn (now (rec .entry))) (now (list .entry)))
+        (timerOut (heard (timerIn timer) (stateOf (recordIn (now (rec .entry))) (now (list .entry))) Metadata)))
         × (now (rec .exit) ≡ markedBy (metadataRecord (recordIn (now (rec .entry))) (now (list .entry))) (now (rec .entry))) ⌝ }
 {
     let own = *rec;
@@ -92,7 +94,8 @@ pub extern "C" fn pusmarke_deferred_eof(
     size: u64,
     timer: PusmarkeDeferred,
 ) -> PusmarkeHeard
-    ensures { λ r. ⌜ (r ≡ heardOut (eofOutcome (recordIn (now (rec .entry))) (now (list .entry)) size) (timerOut (heard (timerIn timer) (stateOf (recordIn (now (rec .entry))) (now (list .entry))) (Eof size))))
+    ensures { λ r. ⌜ (r ≡ heardOut (eofOutcome (recordIn (now (rec .entry))) (now (list .entry)) size)
+        (timerOut (heard (timerIn timer) (stateOf (recordIn (now (rec .entry))) (now (list .entry))) (Eof size))))
         × ((now (rec .exit) ≡ endedBy (eofOutcome (recordIn (now (rec .entry))) (now (list .entry)) size) (eofRecord (recordIn (now (rec .entry))) (now (list .entry)) size) (now (rec .entry)))
         × (now (list .exit) ≡ eofList (recordIn (now (rec .entry))) (now (list .entry)) size)) ⌝ }
 {

@@ -4,8 +4,8 @@ ghost use lib.ListN.{length};
 ghost use Rattle.ranges.specs.Store.{pairs};
 ghost use Rattle.nak.specs.Pdu.{saying};
 ghost use Rattle.nak.specs.Writer.{writeOutcome, written};
-ghost use Rattle.nak_parser.specs.Parser.{parsedOf};
-ghost use Rattle.nak_parser.specs.Step.{stepOutcome, placeAfter};
+ghost use Rattle.nak_parsing.specs.Parser.{parsedOf};
+ghost use Rattle.nak_parsing.specs.Step.{stepOutcome, placeAfter};
 ghost use Rattle.answers.specs.Answer.{answerOf};
 ghost use Rattle.c_values.specs.Input.{identityIn, formIn, editionIn};
 ghost use Rattle.c_values.specs.Output.{nakOut, stepOut};
@@ -32,12 +32,13 @@ pub extern "C" fn pusmarke_write(
     requests: &[u64],
     buf: &mut [u8],
 ) -> PusmarkeAnswer
-    ensures { λ r. ⌜ r ≡ answerOf (writeOutcome (now (requests .entry)) (saying (formIn form) (identityIn identity) «scope_start» «scope_end» (pairs (now (requests .entry)))) (length (now (buf .entry)))) ⌝ }
+    ensures { λ r. ⌜ r ≡ answerOf (writeOutcome (now (requests .entry)) (saying (formIn form) (identityIn identity) «scope_start» «scope_end» (pairs (now (requests .entry))))
+        (length (now (buf .entry)))) ⌝ }
     ensures { λ _. ⌜ now (buf .exit) ≡ written (now (requests .entry)) (saying (formIn form) (identityIn identity) «scope_start» «scope_end» (pairs (now (requests .entry)))) (now (buf .entry)) ⌝ }
 {
     let own = identity_in(identity);
     let shape = form_in(form);
-    of_write(nak::writer::write(own, shape, scope_start, scope_end, requests, buf))
+    of_write(nak_writer::write(own, shape, scope_start, scope_end, requests, buf))
 }
 
 #[no_mangle]

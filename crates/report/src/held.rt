@@ -5,11 +5,11 @@ ghost use Rattle.outcomes.specs.Outcome.{accepted};
 ghost use Rattle.outcomes.specs.Checks.{verdictCase, firstOf};
 ghost use Rattle.holding.specs.Held.{heldChecks, heldCase, heldOutcome};
 use crate::inner::is_held;
-use events::inner::record_checks;
 use holding::held::HeldAnswer;
 use outcomes::Refusal;
 use outcomes::Verdict;
 use reception::Reception;
+use record_checks::inner::record_checks;
 
 pub fn held_checks(rec: Reception, list: &[u64], a: u64, b: u64) -> Verdict
     ensures { λ r. ⌜ verdictCase r ≡ firstOf (heldChecks rec (now (list .entry)) a b) (accepted []) ⌝ }

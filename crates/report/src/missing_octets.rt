@@ -2,10 +2,10 @@
 ghost use mathlib.Core.Path.{_≡_};
 ghost use Rattle.holding.specs.MissingOctets.{missingOctetsCase, missingOctetsOutcome};
 use crate::inner::octets_in;
-use events::inner::record_checks;
 use holding::missing_octets::MissingOctetsAnswer;
 use outcomes::Verdict;
 use reception::Reception;
+use record_checks::inner::record_checks;
 
 pub fn missing_octets(rec: Reception, list: &[u64]) -> MissingOctetsAnswer
     ensures { λ r. ⌜ missingOctetsCase r ≡ missingOctetsOutcome rec (now (list .entry)) ⌝ }

@@ -13,9 +13,9 @@ use Rattle.outcomes.specs.Outcome.{Outcome, accepted}
 use Rattle.octets.specs.Octets.{number}
 use Rattle.nak.specs.Pdu.{Nak, pdu}
 use Rattle.nak.specs.declared.Edition.{Edition}
-use Rattle.nak_parser.specs.Parser.{octetAt, entityLengthIn, numberLengthIn, headerLengthIn, lengthField, parsedOf, readOutcome}
-use Rattle.nak_parser.specs.Step.{requestsGiven}
-use Rattle.nak_parser.proofs.Reading.{read-of}
+use Rattle.nak_parsing.specs.Parser.{octetAt, entityLengthIn, numberLengthIn, headerLengthIn, lengthField, parsedOf, readOutcome}
+use Rattle.nak_parsing.specs.Step.{requestsGiven}
+use Rattle.nak_parsing.proofs.Reading.{read-of}
 use Rattle.reception.specs.declared.Reception.{Reception}
 use Rattle.reception.specs.Record.{Passed}
 use Rattle.sequence.specs.Entries.{Asking, roundedUp, scopeStart, nakAt, naks, octetsOf}

@@ -20,8 +20,8 @@ use Rattle.nak.specs.Request.{isMetadata, checksFrom, requestsChecks}
 use Rattle.outcomes.specs.Checks.{NoneOf}
 use Rattle.nak.specs.Writer.{nakOutcome}
 use Rattle.nak.proofs.Checks.{NakFine, fine-nak}
-use Rattle.nak_parser.specs.Parser.{Says, readOutcome}
-use Rattle.nak_parser.proofs.RoundTrip.{parsed-says, pdu-accepted, read-pdu}
+use Rattle.nak_parsing.specs.Parser.{Says, readOutcome}
+use Rattle.nak_parsing.proofs.RoundTrip.{parsed-says, pdu-accepted, read-pdu}
 use Rattle.reception.specs.Record.{Passed}
 use Rattle.reception.proofs.Sound.{sound}
 use Rattle.reception.specs.declared.Reception.{Reception}
@@ -184,7 +184,8 @@ module _ (rec : Reception) (xs : List ℕ) (o : Order) (ps : Passed xs rec) (ok 
         reserved = ok .reserved;
         scope = scope-ordered (rec .missing) (rec .progress) (a .each) (counted xs (rec .count)) (each-low o (ok .size)) whole within (o .form) (o .identity) f;
         requests = entries-fine (rec .missing) (rec .progress) (a .each) f (counted xs (rec .count)) within;
-        numbers = numbers-fine (rec .missing) (rec .progress) (a .each) (counted xs (rec .count)) (each-low o (ok .size)) whole within (o .form) (o .identity) f (small-progress rec xs (o .form) (ok .numbers));
+        numbers = numbers-fine (rec .missing) (rec .progress) (a .each) (counted xs (rec .count)) (each-low o (ok .size)) whole within (o .form) (o .identity) f
+            (small-progress rec xs (o .form) (ok .numbers));
         size = omega arith;
       }
 

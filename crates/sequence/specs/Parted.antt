@@ -9,8 +9,8 @@ use Rattle.nak.specs.declared.Edition.{Edition}
 use Rattle.nak.specs.declared.Form.{Form}
 use Rattle.nak.specs.declared.Identity.{Identity}
 use Rattle.nak.specs.Request.{isMetadata}
-use Rattle.nak_parser.specs.Parser.{headerLengthIn, lengthField, parsedOf}
-use Rattle.nak_parser.specs.Step.{requestsGiven}
+use Rattle.nak_parsing.specs.Parser.{headerLengthIn, lengthField, parsedOf}
+use Rattle.nak_parsing.specs.Step.{requestsGiven}
 
 -- How long the PDU at the front says that it is: H plus the length field.
 abbrev pub saidLength : List ℕ → ℕ

@@ -40,7 +40,7 @@ struct Received {
 
 fn plain_data(s: State, list: &mut [u64], offset: u64, length: u64) -> Received {
     let rec = s.rec;
-    let done = events::data::data_core(rec, list, offset, length);
+    let done = event_cores::data::data_core(rec, list, offset, length);
     let answer = done.answer;
     let after = done.rec;
     Received {
@@ -89,7 +89,7 @@ pub fn data(
 
 fn plain_metadata(s: State, list: &[u64]) -> Received {
     let rec = s.rec;
-    let done = events::metadata::metadata_core(rec, list);
+    let done = event_cores::metadata::metadata_core(rec, list);
     let answer = done.answer;
     let after = done.rec;
     Received {
@@ -132,7 +132,7 @@ pub fn metadata(s: State, memory: &[u64], out: &mut [u8; 65536]) -> State {
 
 fn plain_eof(s: State, list: &mut [u64], size: u64) -> Received {
     let rec = s.rec;
-    let done = events::eof::eof_core(rec, list, size);
+    let done = event_cores::eof::eof_core(rec, list, size);
     let answer = done.answer;
     let after = done.rec;
     Received {

@@ -10,8 +10,8 @@ use console_text::inner::print;
 use nak::Edition;
 use nak::Form;
 use nak::Identity;
-use nak_parser::Step;
-use nak_parser::inner::header_in;
+use nak_parsing::Step;
+use nak_shape::inner::header_in;
 use octets::LargeFileFlag;
 
 // The first five words of `write` and `nak`: the lengths of the identifiers, source, number, destination.
@@ -42,7 +42,7 @@ fn write_requests(
     out: &mut [u8; 65536],
 ) -> State {
     let size = part::first_octets(buf, values[8] as usize);
-    let a = answers::pdu::of_write(nak::writer::write(
+    let a = answers::pdu::of_write(nak_writer::write(
         identity_of(values),
         form_of(s, values[5]),
         values[6],

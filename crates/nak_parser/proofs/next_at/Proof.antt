@@ -1,16 +1,16 @@
 -- `nak_parser::next_at` meets its contract: the end in two cases, and else the request at the place.
 use native.Mathlib.Omega.{arith}
 use Prim.Native.Nat.{ℕ, _-_, _≤_}
-use mathlib.Core.Path.{_≡_, refl, sym, ap, _∙_}
+use mathlib.Core.Path.{_≡_, refl, ap, _∙_}
 use mathlib.Core.Bool.{cond}
 use mathlib.Core.List.{List}
 use lib.ListN.{length}
 use Rattle.octets.specs.Flag.{fieldLength}
 use Rattle.nak.specs.Header.{flagOf, crcFlagOf}
-use Rattle.nak_parser.specs.Parser.{packetFlag, packetCrc, trailerIn, fieldLengthIn, requestsEnd}
-use Rattle.nak_parser.specs.Step.{stepOutcome, placeAfter}
-use Rattle.nak_parser.proofs.Reading.{field-low, field-high, trailer-high, is-end, end-high}
-use Rattle.nak_parser.proofs.Stepping.{at-end, not-at-end}
+use Rattle.nak_parsing.specs.Parser.{packetFlag, packetCrc, trailerIn, fieldLengthIn, requestsEnd}
+use Rattle.nak_parsing.specs.Step.{stepOutcome, placeAfter}
+use Rattle.nak_parsing.proofs.Reading.{field-low, field-high, trailer-high, is-end, end-high}
+use Rattle.nak_parsing.proofs.Stepping.{at-end, not-at-end}
 use borrow.Author.Needs.{needs}
 use Rattle.nak_parser.proofs.next_at.Statement.{statement}
 use Rattle.nak_parser.proofs.next_at.Tie as tie

@@ -17,11 +17,11 @@ use Rattle.nak.specs.declared.Edition.{Edition}
 use Rattle.nak.specs.Pdu.{trailerLength}
 use Rattle.nak.specs.Writer.{largestPdu}
 use Rattle.nak.specs.Request.{requestsChecks}
-use Rattle.nak_parser.specs.declared.inner.Header.{Header}
-use Rattle.nak_parser.specs.Parser.{trailerIn, fieldLengthIn, headerLengthIn, behindScope, requestsAt, requestsEnd, scopeIn, packetRequests, shapeChecks, readOutcome}
-use Rattle.nak_parser.proofs.Reading.{is-scope, is-place, is-requests, is-end, field-low, field-high, header-high, trailer-high}
-use Rattle.nak_parser.proofs.Reading.{Shape, shape-of, sizeCheck, scopeChecks, in-order, from-scope, from-requests, from-size}
-use Rattle.nak_parser.proofs.ParsedOf.{parsed-accepted, parsed-by, short, is-parsed}
+use Rattle.nak_parsing.specs.declared.inner.Header.{Header}
+use Rattle.nak_parsing.specs.Parser.{trailerIn, fieldLengthIn, headerLengthIn, behindScope, requestsAt, requestsEnd, scopeIn, packetRequests, shapeChecks, readOutcome}
+use Rattle.nak_parsing.proofs.Reading.{is-scope, is-place, is-requests, is-end, field-low, field-high, header-high, trailer-high}
+use Rattle.nak_parsing.proofs.Reading.{Shape, shape-of, sizeCheck, scopeChecks, in-order, from-scope, from-requests, from-size}
+use Rattle.nak_parsing.proofs.ParsedOf.{parsed-accepted, parsed-by, short, is-parsed}
 use borrow.Author.Needs.{needs}
 use Rattle.nak_parser.proofs.parse.Statement.{statement}
 use Rattle.nak_parser.proofs.parse.Tie as tie

@@ -39,13 +39,13 @@ use denote.Triple.Clauses.{ensured, lasts}
 use Rattle.nak.specs.declared.Edition.{Edition}
 use Rattle.nak.proofs.Edition as E
 use Rattle.nak.proofs.Edition.Laws as E′
-use Rattle.nak_parser.specs.Parser.{parsedOf, requestsPart, requestsPtr}
+use Rattle.nak_parsing.specs.Parser.{parsedOf, requestsPart, requestsPtr}
 use Rattle.nak_reader.specs.Reader.{readerOf}
 use Rattle.nak_reader.specs.declared.ReadNak.{ReadNak}
 use Rattle.nak_reader.proofs.ReadNak as K
 use Rattle.nak_reader.proofs.ReadNak.Laws as K′
-use Rattle.nak_parser.proofs.Parsed as Q
-use Rattle.nak_parser.proofs.Parsed.Laws as Q′
+use Rattle.nak_parsing.proofs.Parsed as Q
+use Rattle.nak_parsing.proofs.Parsed.Laws as Q′
 use Rattle.nak_reader.proofs.read as rd
 use Rattle.nak_reader.proofs.read.Symbol as rd-def
 use Rattle.nak_reader.proofs.read.Symbol.{name as #nak_reader·read}
@@ -62,7 +62,8 @@ stayed = (stay-none-slice (0 ∷ []) tt (plain (λ _. u8)) yes, (stay-none (λ _
 abbrev Read : {M : Type 1} (𝓤 : URA M) (H : Heap 𝓤) (A : Atoms 𝓤) (mem : Memory → SProp 𝓤) (run : Routine → Fun 𝓤) → Contract 𝓤
 Read 𝓤 H A mem run = tripleOf 𝓤 H A rd.signature (rd.spec 𝓤 H A mem run)
 
-module _ {M : Type 1} (𝓤 : URA M) (H : Heap 𝓤) (A : Atoms 𝓤) (W : Given 𝓤 H A) (mem : Memory → SProp 𝓤) (run : Routine → Fun 𝓤) (κ : Lft) (q : Share) (s : RefT (List ℕ)) (ed : Edition) (ed-is : Is E.the-row ed (EL.vals E.the-type E′.the-laws ed)) where
+module _ {M : Type 1} (𝓤 : URA M) (H : Heap 𝓤) (A : Atoms 𝓤) (W : Given 𝓤 H A) (mem : Memory → SProp 𝓤) (run : Routine → Fun 𝓤) (κ : Lft) (q : Share) (s : RefT (List ℕ)) (ed : Edition)
+    (ed-is : Is E.the-row ed (EL.vals E.the-type E′.the-laws ed)) where
   abbrev α : NamedLft
   α = namedLft 1 0 tt (κ, tt)
 
@@ -92,7 +93,8 @@ module _ {M : Type 1} (𝓤 : URA M) (H : Heap 𝓤) (A : Atoms 𝓤) (W : Given
   goes =
       qed W ((‵ (flft κ q) ⊛ ‵ ftrue) ∷ ‵ Own ∷ []) ∵ move ! (1 ∷ []) $ use1 W (‵ Own ⊛ ‵ Own) (shr-slice-copy 𝓤 H A W (named 0) κ u8 .twice s (v ∷ [])) $
       split ! $ nothing ! $ owned ! E.the-row (Is E.the-row) (EL.makes E.the-type E′.the-plain 𝓤 H A) ed _ ed-is $ fjoin ! $ move ! (1 ∷ 0 ∷ []) $ fjoin ! $ move ! (2 ∷ 0 ∷ []) $
-      use2 W (raw (Read 𝓤 H A mem run .pre to)) (qed W ((‵ (flft κ q) ⊛ ‵ ftrue) ∷ ‵ (owns (ShrSlice (named 0) κ u8 ∷ E.the-row ∷ []) (s, (ed, tt)) (v ∷ [], (ev ∷ [], tt))) ∷ []) ∵ join ! $ frame ! $ done !) $
+      use2 W (raw (Read 𝓤 H A mem run .pre to)) (qed W ((‵ (flft κ q) ⊛ ‵ ftrue) ∷ ‵ (owns (ShrSlice (named 0) κ u8 ∷ E.the-row ∷ []) (s, (ed, tt)) (v ∷ [], (ev ∷ [], tt))) ∷ []) ∵ join ! $
+      frame ! $ done !) $
       frame ! $ done !
 
   abbrev Said : ReadNak → Type 0
@@ -117,11 +119,13 @@ module _ {M : Type 1} (𝓤 : URA M) (H : Heap 𝓤) (A : Atoms 𝓤) (W : Given
     walk p =
         qed W ((‵ (flft κ q) ⊛ ‵ ftrue) ∷ ‵ (owns (ShrSlice (named 0) κ u8 ∷ E.the-row ∷ []) (s, (ed, tt)) (v ∷ [], (ev ∷ [], tt))) ∷ []) ∵ enter ! C Λ code.function (v ∷ ev ∷ []) _ $
         alloc1 ! (λ l₀. alloc1 ! (λ l₁. alloc1 ! (λ l₂. alloc1 ! (λ l₃. alloc0 ! $ params1 ! $
-        pass1 ! (init ! 4 refl (shr-slice-lawful 𝓤 H A W (named 0) κ u8 .typed s (v ∷ []) p .0)) $ pass1 ! (init ! 2 refl (EL.lawful E.the-type E′.the-laws 𝓤 H A W tt .typed ed _ ed-is .0)) $ pass0 ! $
+        pass1 ! (init ! 4 refl (shr-slice-lawful 𝓤 H A W (named 0) κ u8 .typed s (v ∷ []) p .0)) $ pass1 ! (init ! 2 refl (EL.lawful E.the-type E′.the-laws 𝓤 H A W tt .typed ed _ ed-is .0)) $
+        pass0 ! $
         -- [_3; …; _2; …; _1; …; room for _0; …; the token; what s and the edition own]
         move ! (9 ∷ []) $ fsplit ! $ move ! (1 ∷ []) $ drop ! $ move ! (9 ∷ 0 ∷ []) $ use2 W (raw (Read 𝓤 H A mem run .pre to) ⊛ ‵ Own) goes $ split ! $
         calls-at ! fm (Read 𝓤 H A mem run) known to (and-then ! (load ! (from ! (stop !)) (look ! 6 refl)) (and-then ! (load ! (from ! (stop !)) (look ! 4 refl)) (no-more !))) (λ u.
-        use1 W (later (some (λ (t : ReadNak). ((‵ (flft κ q) ⊛ ‵ ftrue) ⊛ ‵ (K.the-row α .own t (u ∷ []))) ⊛ raw (ensured 𝓤 H A rd.ended (rd.clauses 𝓤 H A mem run) (κ, tt) (s, (ed, tt)) tt t)))) (id⊢ 𝓤 _) $
+        use1 W (later (some (λ (t : ReadNak). ((‵ (flft κ q) ⊛ ‵ ftrue) ⊛ ‵ (K.the-row α .own t (u ∷ []))) ⊛ raw (ensured 𝓤 H A rd.ended (rd.clauses 𝓤 H A mem run) (κ, tt) (s, (ed, tt)) tt t))))
+        (id⊢ 𝓤 _) $
         await ! tt $ pick ! (λ t. split ! $ move ! (1 ∷ []) $ use1 W (raw (fact 𝓤 (Said t))) (said t) $ heard ! (Said t) (λ e. split ! $ move ! (1 ∷ []) $
         -- [the result; the token; what s owns; _3; …; _2; …; _1; …; room for _0; …]
         peeks ! (K.the-row α) (Is (K.the-row α)) (shows 𝓤 H A (K.the-row α)) t (u ∷ []) (λ is.
@@ -135,7 +139,8 @@ module _ {M : Type 1} (𝓤 : URA M) (H : Heap 𝓤) (A : Atoms 𝓤) (W : Given
 module _ {M : Type 1} (𝓤 : URA M) (H : Heap 𝓤) (A : Atoms 𝓤) (W : Given 𝓤 H A) (mem : Memory → SProp 𝓤) (run : Routine → Fun 𝓤) where
   f-walks : (C : Calls 𝓤 H) (Λ : Loops 𝓤 H) → FmC 𝓤 H (W .laws) C → Triple 𝓤 (C #nak_reader·read) (Read 𝓤 H A mem run)
       → Walks 𝓤 H A f.ended stayed (WpFn 𝓤 H C Λ code.function) (f.clauses 𝓤 H A mem run)
-  f-walks C Λ fm known = walked 𝓤 H A f.ended stayed (f.clauses 𝓤 H A mem run) (WpFn 𝓤 H C Λ code.function) (λ κs. (slice-vals, (EL.vals E.the-type E′.the-laws, tt))) (λ κs. (shr-slice-tells (named 0) (κs .0) u8, (EL.tells E.the-type E′.the-laws, tt)))
+  f-walks C Λ fm known = walked 𝓤 H A f.ended stayed (f.clauses 𝓤 H A mem run) (WpFn 𝓤 H C Λ code.function) (λ κs. (slice-vals, (EL.vals E.the-type E′.the-laws, tt)))
+      (λ κs. (shr-slice-tells (named 0) (κs .0) u8, (EL.tells E.the-type E′.the-laws, tt)))
       (λ κs qs bounds a g are. via 𝓤 _ (fst∗ 𝓤 _ (emp 𝓤)) (walk 𝓤 H A W mem run (κs .0) (qs .0) (a .0) (a .1 .0) (are .1 .0) C Λ fm known (are .0)))
 
 f-meets : {M : Type 1} (𝓤 : URA M) (H : Heap 𝓤) (A : Atoms 𝓤) (W : Given 𝓤 H A) (mem : Memory → SProp 𝓤) (run : Routine → Fun 𝓤) (𝓣 : Tables 𝓤 H)

@@ -7,7 +7,8 @@ use Rattle.pusmarke.proofs.take_octets.Statement.{statement}
 use Rattle.pusmarke.proofs.take_octets.Tie as tie
 
 abbrev Inv-loop : tie.InvT-loop
-Inv-loop octets line₀ memory₀ values₀ buf₀ out₀ next₀ i₀ line memory values buf out next i = (i ≤ length octets) × ((length line ≡ length line₀) × ((length memory ≡ length memory₀) × (length buf ≡ length buf₀)))
+Inv-loop octets line₀ memory₀ values₀ buf₀ out₀ next₀ i₀ line memory values buf out next i = (i ≤ length octets) ×
+    ((length line ≡ length line₀) × ((length memory ≡ length memory₀) × (length buf ≡ length buf₀)))
 
 abbrev μ-loop : tie.MeasureT-loop
 μ-loop octets line₀ memory₀ values₀ buf₀ out₀ next₀ i₀ line memory values buf out next i = length octets - i

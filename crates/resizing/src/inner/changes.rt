@@ -14,8 +14,8 @@ ghost use Rattle.pooling.specs.Share.{part};
 ghost use Rattle.resizing.specs.Inner.{cutAt};
 use crate::inner::moves::close_up;
 use crate::inner::moves::make_room;
-use events::inner::change;
-use events::inner::finish;
+use event_lists::inner::change;
+use event_lists::inner::finish;
 use ranges::inner::cut::Remains;
 
 // The data event where it leaves one range more.

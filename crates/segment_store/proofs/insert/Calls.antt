@@ -98,5 +98,7 @@ module _ (xs : List ℕ) (st : Store) (s e : ℕ) (t : Enters xs st s e) where
   pub insert-where-full : st .count ≡ capacity xs → (q : Range) → List·Memᴰ q (counted xs (st .count)) → s ≤ q .end → q .start ≤ e
       → (addOutcome xs st s e ≡ refusing refusal.StoreFull) × (insertOutcome xs st s e ≡ accepted (length (insertLeaves xs st s e) ∷ []))
   insert-where-full c q m h k =
-      let lt = t .nonempty in
-      (rw (t .good, ne-eqb s e (λ f. omega arith), le-ltb e s (omega arith), le-ltb top s (t .start-within), le-ltb top e (t .end-within), eq-eqb (st .count) (capacity xs) c), insert-merges xs st s e t q m h k .0)
+      let lt = t .nonempty in (
+        rw (t .good, ne-eqb s e (λ f. omega arith), le-ltb e s (omega arith), le-ltb top s (t .start-within), le-ltb top e (t .end-within), eq-eqb (st .count) (capacity xs) c),
+        insert-merges xs st s e t q m h k .0,
+      )

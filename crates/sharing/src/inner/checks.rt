@@ -12,11 +12,11 @@ ghost use Rattle.pooling.specs.Share.{base, total};
 ghost use Rattle.sharing.specs.Inner.{isBadOther, otherChecks};
 use crate::inner::settings::bad_settings;
 use crate::inner::settings::bad_share;
-use events::inner::wrong_rest;
 use outcomes::Refusal;
 use outcomes::Verdict;
 use pooling::Pool;
 use reception::Reception;
+use record_checks::inner::wrong_rest;
 use searches::bad_store;
 
 // 10 of a record over its list.

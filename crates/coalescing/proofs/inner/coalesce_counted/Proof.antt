@@ -1,4 +1,4 @@
--- `lost_segments::coalesce::coalesce_counted` meets its contract.
+-- `coalesce_counted` meets its contract.
 use Rattle.coalescing.proofs.Reordered.{same-runs, same-stored}
 use native.Mathlib.Omega.{arith}
 use mathlib.Core.Path.{ap, _∙_}

@@ -129,7 +129,8 @@ module _ {M : Type 1} (𝓤 : URA M) (H : Heap 𝓤) (A : Atoms 𝓤) (W : Given
     Said r zs = (eofCase (r .heard .answer) ≡ eofOutcome h ys off) × ((r .rec ≡ eofRecord h ys off) × ((zs ≡ eofList h ys off) × (r .heard .timer ≡ heardBy tm (stateOf h ys) (Eof off))))
 
     exits : (r : EofHeardDone) (zs : List ℕ) → Is N.the-row (r .heard) (av r ∷ []) → Said r zs → length zs ≡ length ys
-        → ent 𝓤 (⋆ 𝓤 H A (‵ (fobs γ (T.the-row .coded .code (r .rec))) ∷ ‵ (fbor κ (Body (mem T.the-row) b o γ)) ∷ ‵ (flft κ q) ∷ (‵ (flft κ′ q′) ⊛ ‵ ftrue) ∷ ‵ (finally u64 γ′ zs) ∷ [])) (Post (av r))
+        → ent 𝓤 (⋆ 𝓤 H A (‵ (fobs γ (T.the-row .coded .code (r .rec))) ∷ ‵ (fbor κ (Body (mem T.the-row) b o γ)) ∷ ‵ (flft κ q) ∷ (‵ (flft κ′ q′) ⊛ ‵ ftrue) ∷ ‵ (finally u64 γ′ zs) ∷ []))
+        (Post (av r))
     exits r zs is e l =
         qed W (‵ (fobs γ (T.the-row .coded .code (r .rec))) ∷ ‵ (fbor κ (Body (mem T.the-row) b o γ)) ∷ ‵ (flft κ q) ∷ (‵ (flft κ′ q′) ⊛ ‵ ftrue) ∷ ‵ (finally u64 γ′ zs) ∷ []) ∵
         suffices ! _ (ends-at 𝓤 H A f.ended stayed (f.clauses 𝓤 H A at-mem run) W (((κ, (κ′, tt)), (q, (q′, tt)), tt, a, vals), tt) (av r) (r .heard) (tt, (r .rec, (zs, (tt, tt)))) (

@@ -1,8 +1,8 @@
 -- `nak_parser::inner::check_packet` meets its contract. The loop's invariant: the outcome of the requests ahead is that of all.
 use native.Mathlib.Nat.{mul-zero, mul-suc, add-zero, sub-zero}
 use Rattle.nak.proofs.Requests.{late-start, empty-one, fine-one}
-use Rattle.nak_parser.proofs.FirstRequest.{first-request}
-use Rattle.nak_parser.specs.Parser.{requestsIn}
+use Rattle.nak_parsing.proofs.FirstRequest.{first-request}
+use Rattle.nak_parsing.specs.Parser.{requestsIn}
 use Rattle.nak.specs.Request.{checksFrom}
 use Rattle.outcomes.specs.Outcome.{Outcome, accepted}
 use Rattle.outcomes.specs.Checks.{firstOf}
@@ -24,7 +24,8 @@ abbrev said : Bool → List Range → Outcome
 said none rs = firstOf (checksFrom none rs) (accepted [])
 
 abbrev Inv-loop : tie.InvT-loop
-Inv-loop packet from f count at₀ none₀ i₀ at none i = (i ≤ count) × (at ≡ from + 2 * f * i) × (said none (requestsIn f (count - i) (drop at packet)) ≡ said true (requestsIn f count (drop from packet)))
+Inv-loop packet from f count at₀ none₀ i₀ at none i =
+    (i ≤ count) × (at ≡ from + 2 * f * i) × (said none (requestsIn f (count - i) (drop at packet)) ≡ said true (requestsIn f count (drop from packet)))
 
 abbrev μ-loop : tie.MeasureT-loop
 μ-loop packet from f count at₀ none₀ i₀ at none i = count - i

@@ -27,8 +27,10 @@ write-pdu-requires c κs = let l = c .before .before .loop in
     let q = c .before .before .before .before .before in
     let a = q .args in
     let o = askingFor (a .rec) (a .list .now) (a .form) (a .identity) (a .k) in
-    let t = begins-before (entryCount (a .rec)) (a .from) (a .k) (l .n) (omega arith) (omega arith) in
-    ((q .pre .0 .0, (q .pre .0 .1 .0, (omega arith, (omega arith, omega (arith, l .inv .entry))))), done-room o (a .from) (a .pdus) (a .buf .now) (l .buf) (l .at) (l .f) (l .n) (l .inv) (c .before .loop-test .taken) (q .pre .1))
+    let t = begins-before (entryCount (a .rec)) (a .from) (a .k) (l .n) (omega arith) (omega arith) in (
+      (q .pre .0 .0, (q .pre .0 .1 .0, (omega arith, (omega arith, omega (arith, l .inv .entry))))),
+      done-room o (a .from) (a .pdus) (a .buf .now) (l .buf) (l .at) (l .f) (l .n) (l .inv) (c .before .loop-test .taken) (q .pre .1),
+    )
 
 add-f : tie.Need-add-f Inv-loop μ-loop
 add-f c = let l = c .before .before .before .before .before .loop in

@@ -8,7 +8,7 @@ use Rattle.pool.proofs.data.pool_data_checks.Statement.{statement}
 use Rattle.pool.proofs.data.pool_data_checks.Tie as tie
 use Rattle.pool.proofs.data.pool_data_checks.Reads as reads
 use Rattle.pool.proofs.data.pool_data_checks.Lts as lts
-use Rattle.events.proofs.data.data_checks.Reads as data-checks-reads
+use Rattle.event_checks.proofs.data.data_checks.Reads as data-checks-reads
 use Rattle.sharing.proofs.inner.checks.pool_checks.Reads as pool-checks-reads
 use Rattle.sharing.proofs.inner.settings.held_before.Reads as held-before-reads
 use mathlib.Core.List.{List}

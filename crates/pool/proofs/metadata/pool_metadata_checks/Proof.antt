@@ -8,7 +8,7 @@ use Rattle.pool.proofs.metadata.pool_metadata_checks.Statement.{stateme
 use Rattle.pool.proofs.metadata.pool_metadata_checks.Tie as tie
 use Rattle.pool.proofs.metadata.pool_metadata_checks.Reads as reads
 use Rattle.pool.proofs.metadata.pool_metadata_checks.Lts as lts
-use Rattle.events.proofs.metadata.metadata_checks.Reads as metadata-checks-reads
+use Rattle.event_checks.proofs.metadata.metadata_checks.Reads as metadata-checks-reads
 use Rattle.sharing.proofs.inner.checks.pool_checks.Reads as pool-checks-reads
 use Rattle.sharing.proofs.inner.settings.held_before.Reads as held-before-reads
 use mathlib.Core.List.{List}

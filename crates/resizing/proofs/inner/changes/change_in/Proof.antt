@@ -8,7 +8,7 @@ use Rattle.resizing.proofs.inner.changes.change_in.Statement.{statement
 use Rattle.resizing.proofs.inner.changes.change_in.Tie as tie
 use Rattle.resizing.proofs.inner.changes.change_in.Reads as reads
 use Rattle.resizing.proofs.inner.changes.change_in.Lts as lts
-use Rattle.events.proofs.inner.change.Reads as change-reads
+use Rattle.event_lists.proofs.inner.change.Reads as change-reads
 use Rattle.resizing.proofs.inner.changes.change_grown.Reads as change-grown-reads
 use Rattle.resizing.proofs.inner.moves.close_up.Reads as close-up-reads
 use mathlib.Core.Bool.{true, false, cond}

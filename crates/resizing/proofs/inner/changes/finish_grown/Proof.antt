@@ -8,7 +8,7 @@ use Rattle.resizing.proofs.inner.changes.finish_grown.Statement.{statem
 use Rattle.resizing.proofs.inner.changes.finish_grown.Tie as tie
 use Rattle.resizing.proofs.inner.changes.finish_grown.Reads as reads
 use Rattle.resizing.proofs.inner.changes.finish_grown.Lts as lts
-use Rattle.events.proofs.inner.finish.Reads as finish-reads
+use Rattle.event_lists.proofs.inner.finish.Reads as finish-reads
 use Rattle.resizing.proofs.inner.moves.make_room.Reads as make-room-reads
 use mathlib.Core.Bool.{true, false, cond}
 use mathlib.Core.List.{List}

@@ -8,7 +8,7 @@ use Rattle.resizing.proofs.inner.changes.finish_in.Statement.{statement
 use Rattle.resizing.proofs.inner.changes.finish_in.Tie as tie
 use Rattle.resizing.proofs.inner.changes.finish_in.Reads as reads
 use Rattle.resizing.proofs.inner.changes.finish_in.Lts as lts
-use Rattle.events.proofs.inner.finish.Reads as finish-reads
+use Rattle.event_lists.proofs.inner.finish.Reads as finish-reads
 use Rattle.resizing.proofs.inner.changes.finish_grown.Reads as finish-grown-reads
 use Rattle.resizing.proofs.inner.moves.close_up.Reads as close-up-reads
 use mathlib.Core.Bool.{true, false, cond}

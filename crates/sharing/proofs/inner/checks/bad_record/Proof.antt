@@ -8,7 +8,7 @@ use Rattle.sharing.proofs.inner.checks.bad_record.Statement.{statement}
 use Rattle.sharing.proofs.inner.checks.bad_record.Tie as tie
 use Rattle.sharing.proofs.inner.checks.bad_record.Reads as reads
 use Rattle.sharing.proofs.inner.checks.bad_record.Lts as lts
-use Rattle.events.proofs.inner.wrong_rest.Reads as wrong-rest-reads
+use Rattle.record_checks.proofs.inner.wrong_rest.Reads as wrong-rest-reads
 use Rattle.ranges.proofs.Width.limit.Reads as limit-reads
 use Rattle.searches.proofs.bad_store.Reads as bad-store-reads
 use mathlib.Core.Bool.{true, false}

@@ -1,0 +1,2 @@
+// The store's call by which offsets leave: remove.
+pub mod remove;
