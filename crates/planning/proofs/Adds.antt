@@ -1,17 +1,16 @@
 -- Test 4 by numbers: requests repeat no offset exactly if they add as many octets to those asked for before as they have.
 use mathlib.Core.Path.{_≡_, refl, sym, ap, _∙_}
-use mathlib.Core.Bool.{Bool, true, false, _&&_, _||_, not, cond, true≢false}
+use mathlib.Core.Bool.{Bool, true, false, _&&_, _||_, not, true≢false}
 use mathlib.Core.List.{List, [], _∷_, _++_, append-assoc, append-nil}
-use mathlib.Core.Logic.{_⊎_, inl, inr, ⊎-elim}
 use Prim.Native.Nat.{ℕ, zero, suc, _+_, _-_, _≤_, _<_}
 use native.Mathlib.Omega.{arith}
 use native.Mathlib.Decide.{decLt}
 use lib.Dec.{eqb}
 use borrow.Author.Tests.{eq-eqb, ne-eqb}
-use Rattle.ranges.specs.Range.{Range, range, In, Covers}
-use Rattle.ranges.proofs.Test.{or-false, or-none, and-true, and-none}
+use Rattle.ranges.specs.Range.{Range, range}
+use Rattle.ranges.proofs.Test.{or-false, or-none, and-none}
 use Rattle.holding.specs.Count.{countBelow, isIn, isCovered, octetsBelow}
-use Rattle.holding.proofs.Counting.{in-true, covered-set, count-same, count-none, none-counted, lengths, lengths-below}
+use Rattle.holding.proofs.Counting.{in-true, count-same, count-none, none-counted, lengths, lengths-below}
 use Rattle.planning.specs.Tests.{someOffset, asksAgain}
 use Rattle.planning.proofs.Offsets.{no-offset, an-offset}
 

@@ -1,5 +1,5 @@
 -- Which PDU a failing test blames: the first at fault; where none is at fault, their number. And what being at fault says of offsets.
-use mathlib.Core.Path.{_≡_, refl, sym, ap, _∙_}
+use mathlib.Core.Path.{_≡_, refl, sym}
 use mathlib.Core.Bool.{Bool, true, false, _||_, true≢false}
 use mathlib.Core.List.{List, [], _∷_, _++_}
 use mathlib.Core.Logic.{_⊎_, inl, inr, ⊎-elim}
@@ -8,7 +8,7 @@ use native.Mathlib.Omega.{arith}
 use lib.ListN.{length}
 use lib.Dec.{ltb}
 use borrow.Author.Tests.{ltb-true, ltb-false}
-use Rattle.ranges.specs.Range.{Range, range, In, Covers, rangeAt}
+use Rattle.ranges.specs.Range.{Range, In, Covers, rangeAt}
 use Rattle.ranges.proofs.Covering.{covers-append}
 use Rattle.holding.specs.Count.{isCovered}
 use Rattle.holding.proofs.Counting.{covered-set}

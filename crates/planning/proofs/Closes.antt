@@ -1,12 +1,12 @@
 -- What an accepted plan names, for the record that any history of events leaves: each missing octet once and no other. So where the data for its requests
 -- arrives and none is refused, the transfer closes, as with a sequence of our own (document 02, C-24).
-use mathlib.Core.Path.{_≡_, refl, sym, ap, _∙_}
+use mathlib.Core.Path.{_≡_, _∙_}
 use mathlib.Core.Bool.{Bool, true, false, not, cond}
 use mathlib.Core.List.{List, [], _∷_}
 use mathlib.Core.Logic.{_↔_}
-use Prim.Native.Nat.{ℕ, _*_, _≤_, _<_}
+use Prim.Native.Nat.{ℕ, _*_, _≤_}
 use lib.ListN.{length}
-use Rattle.ranges.specs.Range.{Range, Covers}
+use Rattle.ranges.specs.Range.{Covers}
 use Rattle.ranges.specs.Store.{mostPairs}
 use Rattle.ranges.specs.declared.Width.{Width}
 use Rattle.outcomes.specs.Outcome.{accepted}

@@ -1,28 +1,27 @@
 -- A plan is accepted exactly if the checks pass and it fits; and what its refusals say.
-use mathlib.Core.Path.{_≡_, refl, sym, ap, _∙_}
-use mathlib.Core.Bool.{Bool, true, false, _&&_, _||_, not, cond}
-use mathlib.Core.List.{List, [], _∷_, _++_, List·Memᴰ}
+use mathlib.Core.Path.{_≡_, refl, ap, _∙_}
+use mathlib.Core.Bool.{Bool, true, false, _&&_, not}
+use mathlib.Core.List.{List, [], _∷_, _++_}
 use mathlib.Core.Logic.{_⊎_, inl, inr, ⊎-elim, _↔_}
 use Prim.Native.Nat.{ℕ, zero, suc, _+_, _≤_, _<_}
 use native.Mathlib.Omega.{arith}
 use native.Mathlib.Decide.{decLt}
 use native.Mathlib.Nat.{eq-or-lt-of-le}
-use lib.ListN.{length}
-use lib.Dec.{eqb, ltb}
+use lib.Dec.{eqb}
 use borrow.Author.Tests.{eqb-true, eq-eqb, not-false, ltb-false, le-ltb}
-use Rattle.ranges.specs.Range.{Range, range, Covers, some, inside}
+use Rattle.ranges.specs.Range.{Range, Covers, inside}
 use Rattle.ranges.specs.Store.{counted}
 use Rattle.ranges.proofs.Test.{and-true}
 use Rattle.ranges.proofs.Some.{inside-true}
 use Rattle.ranges.proofs.Covering.{covers-append, append-covers}
 use Rattle.outcomes.specs.Outcome.{Outcome, accepted}
-use Rattle.outcomes.specs.Checks.{Check, firstOf, NoneOf}
+use Rattle.outcomes.specs.Checks.{firstOf, NoneOf}
 use Rattle.outcomes.proofs.FirstOf.{first-accepted, first-none}
 use Rattle.nak.specs.declared.Identity.{Identity}
 use Rattle.nak.specs.Request.{isMetadata, metadataAsked}
 use Rattle.reception.specs.declared.Reception.{Reception}
 use Rattle.planning.specs.Plan.{Plan, pdus, readIn, identityIn, scopeOf, requestsOf, askedBefore, asked}
-use Rattle.planning.specs.Tests.{firstBelow, isUnread, sameIdentity, isOther, isOutside, isBeyond, isRepeat, isMore, isUnwanted, isLeftOut, wanted, isTooOften, isAbsent, planTests}
+use Rattle.planning.specs.Tests.{isUnread, sameIdentity, isOther, isOutside, isBeyond, isRepeat, isUnwanted, isLeftOut, wanted, isTooOften, isAbsent, planTests}
 use Rattle.planning.specs.Check.{planChecks, planOutcome}
 use Rattle.planning.specs.Fits.{Within, Fits}
 use Rattle.planning.proofs.Firsts.{passes, pass}

@@ -3,11 +3,10 @@ use mathlib.Core.Path.{_≡_, refl, sym, ap, _∙_}
 use mathlib.Core.Bool.{Bool, true, false, _||_, true≢false}
 use mathlib.Core.List.{List, [], _∷_, _++_, append-assoc, append-nil}
 use mathlib.Core.Logic.{_⊎_, inl, inr, ⊎-elim, _↔_}
-use Prim.Native.Nat.{ℕ, zero, suc, _+_, _≤_, _<_}
+use Prim.Native.Nat.{ℕ, zero, suc, _+_, _<_}
 use native.Mathlib.Omega.{arith}
 use native.Mathlib.Decide.{decLt}
-use lib.ListN.{length}
-use Rattle.ranges.specs.Range.{Range, range, In, Covers, rangeAt}
+use Rattle.ranges.specs.Range.{Range, range, In, Covers}
 use Rattle.ranges.proofs.Test.{or-false}
 use Rattle.ranges.proofs.Covering.{covers-append, append-covers, covers-at, at-covers}
 use Rattle.holding.specs.Count.{isCovered}

@@ -1,40 +1,37 @@
 -- Our own sequence, proposed as a plan, fits: under either edition, with the trailer or without.
 use mathlib.Core.Path.{_≡_, refl, sym, ap, ap₂, _∙_}
-use mathlib.Core.Bool.{Bool, true, false, not, cond}
+use mathlib.Core.Bool.{Bool, true, false, not}
 use mathlib.Core.List.{List, [], _∷_, _++_, List·Memᴰ, append-assoc, append-nil}
-use mathlib.Core.Logic.{_⊎_, inl, inr, ⊎-elim, _↔_}
 use Prim.Native.Nat.{ℕ, zero, suc, _+_, _*_, _-_, _≤_, _<_, min}
 use native.Mathlib.Omega.{arith}
 use native.Mathlib.Decide.{decLt}
 use native.Mathlib.Nat.{suc-mul, zero-mul}
 use lib.ListN.{length, getD, take, drop, length-take, length-drop, length-append}
-use lib.Dec.{eqb, ltb}
 use lib.Seq.{take-all, take-suc, take-at, drop-append-add, getD-take, getD-drop}
 use borrow.Author.Tests.{eq-eqb, le-ltb, lt-ltb}
-use Rattle.ranges.specs.Range.{Range, range, In, Covers, Above, Coalesced, lastEnd, rangeAt}
+use Rattle.ranges.specs.Range.{Range, range, Above, Coalesced, lastEnd, rangeAt}
 use Rattle.ranges.specs.Store.{counted}
 use Rattle.ranges.proofs.Last.{ends-le, last-tail}
 use Rattle.ranges.proofs.Holder.{member-at}
 use Rattle.outcomes.specs.Outcome.{accepted}
-use Rattle.outcomes.specs.Checks.{NoneOf}
 use Rattle.nak.specs.declared.Edition.{Edition}
-use Rattle.nak.specs.Pdu.{Nak, pdu}
-use Rattle.nak.specs.Request.{isMetadata, metadataAsked}
+use Rattle.nak.specs.Pdu.{pdu}
+use Rattle.nak.specs.Request.{metadataAsked}
 use Rattle.nak_parser.specs.Parser.{Says, parsedOf}
 use Rattle.nak_parser.specs.Step.{requestsGiven}
 use Rattle.reception.specs.declared.Reception.{Reception}
 use Rattle.reception.specs.Record.{recordChecks, Passed}
 use Rattle.reception.proofs.Sound.{sound, none-join}
-use Rattle.sequence.specs.Entries.{Asking, entriesOf, endOf, scopeStart, scopeEnd, nakAt, naks, octetsOf, roundedUp}
+use Rattle.sequence.specs.Entries.{Asking, entriesOf, scopeStart, scopeEnd, nakAt, naks, octetsOf, roundedUp}
 use Rattle.sequence.specs.Sequence.{Order, Allowed, asked}
 use Rattle.sequence.specs.Calls.{Call, AllFit, octetsBy, budgets}
 use Rattle.sequence.specs.Parted.{parted, joined, requestsRead}
 use Rattle.sequence.proofs.Parting.{pdus, joined-pdus, length-pdus, parted-naks, requests-read, requests-naks}
 use Rattle.sequence.proofs.Sizes.{each-low}
 use Rattle.sequence.proofs.Together.{up-enough, ran}
-use Rattle.sequence.proofs.Readable.{pdu-readable, scope-next, scope-end}
+use Rattle.sequence.proofs.Readable.{pdu-readable, scope-end}
 use Rattle.sequence.proofs.Named.{entry-once, metadata-entries, entries-cover}
-use Rattle.planning.specs.Plan.{Plan, plan, startOf, packetIn, packet, readIn, requestsOf, askedBefore, lengthsOf}
+use Rattle.planning.specs.Plan.{Plan, plan, startOf, packetIn, packet, requestsOf, askedBefore, lengthsOf}
 use Rattle.planning.specs.Plan as proposed
 use Rattle.planning.specs.Fits.{Fits}
 use Rattle.planning.specs.Check.{mostPdus, sumOf, roomFor, proposalChecks, planOutcome}
