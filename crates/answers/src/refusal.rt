@@ -27,6 +27,7 @@ pub fn carried(number: u64) -> usize
         3 => 2,
         5 => 2,
         6 => 2,
+        26 => 2,
         _ => 0,
     }
 }

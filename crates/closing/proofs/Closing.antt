@@ -34,7 +34,7 @@ later-kept true (Eof z) x rs c = c
 later-kept false e x rs c = c
 
 -- events of which none is refused keep all their data, once the metadata is known
-all-kept : (es : List Event) (s : State) (x : ℕ) → NoneRefused s es → Covers x (dataOf es) → Covers x (keptFrom true s es)
+pub all-kept : (es : List Event) (s : State) (x : ℕ) → NoneRefused s es → Covers x (dataOf es) → Covers x (keptFrom true s es)
 all-kept [] s x a c = c
 all-kept (Data o n ∷ es) s x a c =
     own-kept (isAccepted s (Data o n)) o n x _ (a .0) (⊎-elim (λ h. inl h) (λ h. inr (all-kept es (step s (Data o n)) x (a .1) h)) c)

@@ -42,7 +42,8 @@ refusalBack o =
     (cond (eqb (o .number) 21) refusal.BadTrailer
     (cond (eqb (o .number) 22) refusal.FileSizeError
     (cond (eqb (o .number) 23) refusal.BadPool
-    refusal.BadTimer)))))))))))))))))))))))
+    (cond (eqb (o .number) 25) refusal.BadTimer
+    (refusal.BadPlan (value 0 o) (value 1 o))))))))))))))))))))))))))
 
 pub refusal-back : (r : Refusal) → refusalBack (refusing r) ≡ r
 refusal-back refusal.StoreFull = refl
@@ -69,6 +70,7 @@ refusal-back refusal.BadTrailer = refl
 refusal-back refusal.FileSizeError = refl
 refusal-back refusal.BadPool = refl
 refusal-back refusal.BadTimer = refl
+refusal-back (refusal.BadPlan a b) = refl
 
 pub one-refusal : (r s : Refusal) → refusing r ≡ refusing s → r ≡ s
 one-refusal = apart refusing refusalBack refusal-back
@@ -98,6 +100,7 @@ refuses refusal.BadTrailer = refl
 refuses refusal.FileSizeError = refl
 refuses refusal.BadPool = refl
 refuses refusal.BadTimer = refl
+refuses (refusal.BadPlan a b) = refl
 
 pub no-refusal : (r : Refusal) {vs : List ℕ} → refusing r ≡ accepted vs → ⊥
 no-refusal r e = true≢false (ap (λ (o : Outcome). eqb (o .number) 0) (sym e) ∙ refuses r)

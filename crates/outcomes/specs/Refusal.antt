@@ -1,5 +1,5 @@
--- The number of each refusal, and what it also carries (document 01, "Numbers handed back on refusal"; 21, 22, 23 and 25: document 02, C-11,
--- C-14, C-21 and C-22).
+-- The number of each refusal, and what it also carries (document 01, "Numbers handed back on refusal"; 21, 22, 23, 25 and 26: document 02,
+-- C-11, C-14, C-21, C-22 and C-23).
 use mathlib.Core.List.{[], _∷_}
 use Rattle.outcomes.specs.Outcome.{Outcome, refused}
 use Rattle.outcomes.specs.declared.Refusal.{Refusal}
@@ -30,3 +30,4 @@ refusing refusal.BadTrailer = refused 21 []
 refusing refusal.FileSizeError = refused 22 []
 refusing refusal.BadPool = refused 23 []
 refusing refusal.BadTimer = refused 25 []
+refusing (refusal.BadPlan test pdu) = refused 26 (test ∷ pdu ∷ [])

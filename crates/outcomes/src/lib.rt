@@ -34,6 +34,8 @@ pub enum Refusal {
     FileSizeError,
     BadPool,
     BadTimer,
+    // Test, PDU.
+    BadPlan(usize, usize),
 }
 
 // What the checks of a call say: it may go on, or the refusal.
@@ -100,5 +102,6 @@ pub fn in_numbers(r: Refusal) -> Told
         Refusal::FileSizeError => bare(22),
         Refusal::BadPool => bare(23),
         Refusal::BadTimer => bare(25),
+        Refusal::BadPlan(test, pdu) => pair(26, test as u64, pdu as u64),
     }
 }

@@ -31,7 +31,7 @@ use Rattle.sequence.proofs.Together.{length-naks, up-enough, ran, run-a
 use Rattle.sequence.proofs.Parting.{pdus, length-pdus, joined-pdus, requests-naks, parted-naks, all-read, scopes-join, requests-read}
 
 -- the entry (0, 0) has no offset
-entries-cover : (m : Bool) (rs : List Range) (x : ℕ) → Covers x (entriesOf m rs) ↔ Covers x rs
+pub entries-cover : (m : Bool) (rs : List Range) (x : ℕ) → Covers x (entriesOf m rs) ↔ Covers x rs
 entries-cover true rs x = (⊎-elim (λ h. absurd (omega arith)) (λ h. h), λ h. inr h)
 entries-cover false rs x = (λ h. h, λ h. h)
 
@@ -43,7 +43,7 @@ one-place d x (r ∷ rs) s zero (suc j) u v g h = let k = above-covers (suc (r .
 one-place d x (r ∷ rs) s (suc i) zero u v g h = let k = above-covers (suc (r .end)) x rs (s .2) (at-covers x rs i (omega arith) g) in absurd (omega arith)
 one-place d x (r ∷ rs) s (suc i) (suc j) u v g h = ap suc (one-place (suc (r .end)) x rs (s .2) i j (omega arith) (omega arith) g h)
 
-entry-once : (m : Bool) (rs : List Range) → Coalesced rs → (x i j : ℕ) → i < length (entriesOf m rs) → j < length (entriesOf m rs)
+pub entry-once : (m : Bool) (rs : List Range) → Coalesced rs → (x i j : ℕ) → i < length (entriesOf m rs) → j < length (entriesOf m rs)
     → In x (getD (entriesOf m rs) i (range 0 0)) → In x (getD (entriesOf m rs) j (range 0 0)) → i ≡ j
 entry-once false rs s x i j u v g h = one-place 0 x rs s i j u v g h
 entry-once true rs s x zero j u v g h = absurd (omega arith)
@@ -57,7 +57,7 @@ no-metadata d (r ∷ rs) s =
     let i = no-metadata (suc (r .end)) rs (s .2) in
     rw (ne-eqb (r .end) 0 (λ e. omega arith), and-none (eqb (r .start) 0)) (omega arith)
 
-metadata-entries : (m : Bool) (rs : List Range) → Coalesced rs → metadataAsked (entriesOf m rs) ≡ cond m 1 0
+pub metadata-entries : (m : Bool) (rs : List Range) → Coalesced rs → metadataAsked (entriesOf m rs) ≡ cond m 1 0
 metadata-entries true rs s = let i = no-metadata 0 rs s in omega arith
 metadata-entries false rs s = no-metadata 0 rs s
 

@@ -11,7 +11,7 @@ use Rattle.answers.specs.Refusal.{Carries}
 
 -- the refusals that carry something
 abbrev pub valuesOf : ℕ → ℕ
-valuesOf number = cond (eqb number 3) 2 (cond (eqb number 5) 2 (cond (eqb number 6) 2 0))
+valuesOf number = cond (eqb number 3) 2 (cond (eqb number 5) 2 (cond (eqb number 6) 2 (cond (eqb number 26) 2 0)))
 
 each : (r : Refusal) → valuesOf (refusing r .number) ≡ length (refusing r .values)
 each refusal.StoreFull = refl
@@ -38,6 +38,7 @@ each refusal.BadTrailer = refl
 each refusal.FileSizeError = refl
 each refusal.BadPool = refl
 each refusal.BadTimer = refl
+each (refusal.BadPlan test pdu) = refl
 
 pub carries : (number : ℕ) {n : ℕ} → valuesOf number ≡ n → Carries number n
 carries number e r h = sym e ∙ ap valuesOf (sym h) ∙ each r

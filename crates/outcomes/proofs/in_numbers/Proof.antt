@@ -149,6 +149,12 @@ enum-told-21 c = search needs
 bare-requires-21 : tie.Need-bare-requires-21
 bare-requires-21 c κs = search needs
 
+enum-known-r-4 : tie.Need-enum-known-r-4
+enum-known-r-4 c = search needs
+
+pair-requires-4 : tie.Need-pair-requires-4
+pair-requires-4 c κs = search needs
+
 returns : tie.Need-returns
 returns c = rw (c .before .enum-told .given .1) (c .bare .ensures)
 
@@ -221,6 +227,9 @@ returns-23 c = rw (c .before .enum-told20 .given .1) (c .bare20 .ensures)
 returns-24 : tie.Need-returns-24
 returns-24 c = rw (c .before .enum-told21 .given .1) (c .bare21 .ensures)
 
+returns-25 : tie.Need-returns-25
+returns-25 c = rw (c .before .before .r4 .given .1) (c .pair4 .ensures)
+
 pub in-numbers-spec : {M : Type 1} → statement M
 in-numbers-spec =
     tie.close
@@ -273,6 +282,8 @@ in-numbers-spec =
     bare-requires-20
     enum-told-21
     bare-requires-21
+    enum-known-r-4
+    pair-requires-4
     returns
     returns-2
     returns-3
@@ -296,4 +307,5 @@ in-numbers-spec =
     returns-21
     returns-22
     returns-23
-    returns-24)
+    returns-24
+    returns-25)

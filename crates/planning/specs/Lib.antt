@@ -1,0 +1,4 @@
+pub mod Plan
+pub mod Tests
+pub mod Check
+pub mod Fits
