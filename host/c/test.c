@@ -1625,6 +1625,84 @@ static void transfer(void) {
     HOLDS(sized_is(r, 300, 0, 1, 0, 1, 300));
 }
 
+/* PDUs that mission planning proposes. Holes 100-150, 200-250 and 600-700 of a file of 1,000 octets; the packets are those of
+ * examples/plan.script, written out there by hand. */
+static void plans(void) {
+    const uint64_t list[16] = {100, 150, 200, 250, 600, 700};
+    const uint8_t line[24] = {0x28, 0, 0x11, 0, 1, 7, 2, 8, 0, 0, 2, 0x58, 0, 0, 2, 0xbc, 0, 0, 2, 0x58, 0, 0, 2, 0xbc};
+    const uint8_t rest[32] = {0x28, 0, 0x19, 0, 1, 7, 2, 8, 0, 0, 0, 0, 0, 0, 0, 250, 0, 0, 0, 100, 0, 0, 0, 150, 0, 0, 0, 200, 0, 0, 0, 250};
+    const uint16_t lengths[17] = {24, 32}, turned[2] = {32, 24}, short_by_one[2] = {24, 31};
+    struct pusmarke_reception r = {1000, 3, 0, 0, 1, 1000};
+    struct pusmarke_identity other = identity, bad = identity;
+    uint8_t octets[56], before[56];
+    uint64_t scratch[16], was[16];
+    size_t i;
+
+    memcpy(octets, line, 24);
+    memcpy(octets + 24, rest, 32);
+    memcpy(before, octets, 56);
+    memset(scratch, 0x5a, sizeof scratch);
+    memcpy(was, scratch, sizeof scratch);
+
+    /* the checks, in order; nothing is written */
+    r.count = 9;
+    REFUSED(pusmarke_check_plan(r, list, 16, identity, 0, lengths, 17, octets, 55, scratch, 13), PUSMARKE_BAD_STORE);
+    r.count = 3;
+    r.progress = r.size = 699;
+    REFUSED(pusmarke_check_plan(r, list, 16, identity, 0, lengths, 17, octets, 55, scratch, 13), PUSMARKE_SCOPE_BELOW_LIST);
+    r.progress = r.size = 1000;
+    bad.entity_length = 9;
+    REFUSED(pusmarke_check_plan(r, list, 16, bad, 0, lengths, 17, octets, 55, scratch, 13), PUSMARKE_BAD_IDENTITY);
+    REFUSED(pusmarke_check_plan(r, list, 16, identity, 0, lengths, 17, octets, 55, scratch, 13), PUSMARKE_BUDGET_TOO_LARGE);
+    CARRIES(pusmarke_check_plan(r, list, 16, identity, 0, lengths, 2, octets, 55, scratch, 11), PUSMARKE_BUFFER_SIZE_MISSMATCH, 56, 55);
+    CARRIES(pusmarke_check_plan(r, list, 16, identity, 0, lengths, 2, octets, 56, scratch, 13), PUSMARKE_BUFFER_SIZE_MISSMATCH, 14, 13);
+    SAME(was, scratch);
+
+    /* accepted; the scratch for the requests is cleared, and no more */
+    ACCEPTED(pusmarke_check_plan(r, list, 16, identity, 0, lengths, 2, octets, 56, scratch, 16), 0, 0, 0);
+    for (i = 0; i < 14; i++)
+        HOLDS(scratch[i] == 0);
+    HOLDS(scratch[14] == was[14] && scratch[15] == was[15]);
+    ACCEPTED(pusmarke_check_plan(r, list, 16, identity, 0, lengths, 2, octets, 56, scratch, 14), 0, 0, 0);
+
+    /* the tests, each with its PDU */
+    CARRIES(pusmarke_check_plan(r, list, 16, identity, 1, lengths, 2, octets, 56, scratch, 16), PUSMARKE_BAD_PLAN, 1, 0);
+    CARRIES(pusmarke_check_plan(r, list, 16, identity, 0, turned, 2, octets, 56, scratch, 16), PUSMARKE_BAD_PLAN, 1, 0);
+    CARRIES(pusmarke_check_plan(r, list, 16, identity, 0, short_by_one, 2, octets, 55, scratch, 16), PUSMARKE_BAD_PLAN, 1, 1);
+    other.destination = 3;
+    CARRIES(pusmarke_check_plan(r, list, 16, other, 0, lengths, 2, octets, 56, scratch, 16), PUSMARKE_BAD_PLAN, 2, 0);
+    octets[24 + 5] = 8;
+    CARRIES(pusmarke_check_plan(r, list, 16, identity, 0, lengths, 2, octets, 56, scratch, 16), PUSMARKE_BAD_PLAN, 2, 1);
+    octets[24 + 5] = 7;
+    octets[15] = 0xbb;
+    CARRIES(pusmarke_check_plan(r, list, 16, identity, 0, lengths, 2, octets, 56, scratch, 16), PUSMARKE_BAD_PLAN, 3, 0);
+    octets[15] = 0xbc;
+    octets[24 + 23] = 201; /* 100 to 201, so that 200 is asked for twice, in one PDU */
+    CARRIES(pusmarke_check_plan(r, list, 16, identity, 0, lengths, 2, octets, 56, scratch, 16), PUSMARKE_BAD_PLAN, 4, 1);
+    octets[24 + 23] = 151;
+    CARRIES(pusmarke_check_plan(r, list, 16, identity, 0, lengths, 2, octets, 56, scratch, 16), PUSMARKE_BAD_PLAN, 5, 1);
+    octets[24 + 23] = 149;
+    CARRIES(pusmarke_check_plan(r, list, 16, identity, 0, lengths, 2, octets, 56, scratch, 16), PUSMARKE_BAD_PLAN, 5, 2);
+    octets[24 + 23] = 150;
+    r.missing = 1;
+    r.count = 1;
+    REFUSED(pusmarke_check_plan(r, list, 16, identity, 0, lengths, 2, octets, 56, scratch, 16), PUSMARKE_BAD_STORE);
+    r.missing = 0;
+    r.count = 3;
+    memset(octets + 24 + 16, 0, 8); /* 100 to 150 becomes (0, 0): metadata, which is known; 5 is asked before 6 */
+    CARRIES(pusmarke_check_plan(r, list, 16, identity, 0, lengths, 2, octets, 56, scratch, 16), PUSMARKE_BAD_PLAN, 5, 2);
+    r.count = 2;
+    CARRIES(pusmarke_check_plan(r, list + 2, 14, identity, 0, lengths, 2, octets, 56, scratch, 16), PUSMARKE_BAD_PLAN, 6, 1);
+    memcpy(octets + 24 + 16, before + 24 + 16, 8);
+    SAME(before, octets);
+
+    /* nothing is missing: no PDU */
+    r.count = 0;
+    ACCEPTED(pusmarke_check_plan(r, list, 16, identity, 0, NULL, 0, NULL, 0, NULL, 0), 0, 0, 0);
+    r.count = 3;
+    CARRIES(pusmarke_check_plan(r, list, 16, identity, 0, NULL, 0, NULL, 0, NULL, 0), PUSMARKE_BAD_PLAN, 5, 0);
+}
+
 int main(void) {
     store();
     removals();
@@ -1639,6 +1717,7 @@ int main(void) {
     sequence();
     older_sequence();
     crc_sequence();
+    plans();
     timers();
     ticks();
     deferred();

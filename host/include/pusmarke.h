@@ -52,7 +52,8 @@ enum pusmarke_refusal {
     PUSMARKE_BAD_TRAILER = 21,
     PUSMARKE_FILE_SIZE_ERROR = 22,
     PUSMARKE_BAD_POOL = 23,
-    PUSMARKE_BAD_TIMER = 25
+    PUSMARKE_BAD_TIMER = 25,
+    PUSMARKE_BAD_PLAN = 26 /* first, second: the test, 1 to 6, and the PDU, counted from 0 */
 };
 
 /* What a removal did: `first` of an accepted pusmarke_remove. The part is the one that leaves. */
@@ -321,6 +322,18 @@ struct pusmarke_step pusmarke_next(const uint8_t *packet, size_t packet_length, 
 struct pusmarke_answer pusmarke_nak_sequence(struct pusmarke_reception record, const uint64_t *list, size_t list_length,
     struct pusmarke_identity identity, struct pusmarke_form form, size_t largest, size_t cursor, size_t budget, uint8_t *buffer,
     size_t buffer_length);
+
+/* PDUs that mission planning proposes, checked against the record: `octets` holds them back to back, `lengths` the octets of each. `older`
+ * is the link's edition, not 0 for the older one; a PDU may have the CRC flag. `scratch` is lent to sort the requests in: two numbers for
+ * each eight octets, or more; what it holds does not matter, and those numbers are 0 afterwards unless a refusal before 26 was given.
+ * Accepted: every PDU reads, all carry the identity, requests other than (0, 0) lie within their PDU's scope, no offset is asked for twice,
+ * the union is what is missing, and metadata is asked for once if it is missing and otherwise nowhere.
+ * Refusals: those of a record; 13; 20 more than 16 PDUs; 6 the lengths do not sum to the octets, first their sum, second the octets given;
+ * 6 the scratch is too short, first the numbers needed, second those given; 26 first the first of these six tests that fails, second the
+ * first PDU at fault (of a repeat the later), or the number of PDUs where something missing is not asked for. */
+struct pusmarke_answer pusmarke_check_plan(struct pusmarke_reception record, const uint64_t *list, size_t list_length,
+    struct pusmarke_identity identity, uint64_t older, const uint16_t *lengths, size_t pdus, const uint8_t *octets, size_t octets_length,
+    uint64_t *scratch, size_t scratch_length);
 
 /* Several transfers, one list. The list's capacity, S ranges, serves all transfers of a pool; it holds their ranges back to back, in the
  * order of their numbers, so a slot that one gives up serves any. The caller keeps the pool as it keeps a record, and lends the whole

@@ -3,6 +3,7 @@ pub mod events; // events.rt: of the three events
 pub mod inner; // inner.rt: an answer with so many values
 pub mod pdu; // pdu.rt: of writing one NAK PDU
 pub mod pdus; // pdus.rt: of the NAK sequence
+pub mod plan; // plan.rt: of the check of a plan
 pub mod refusal; // refusal.rt: of a refusal, whatever call gives it
 pub mod report; // report.rt: of held and missing_octets
 pub mod store; // store.rt: of the store's six calls

@@ -160,6 +160,19 @@ extern "C" {
         buffer: *mut u8,
         buffer_length: usize,
     ) -> Answer;
+    pub(crate) fn pusmarke_check_plan(
+        record: Record,
+        list: *const u64,
+        list_length: usize,
+        identity: Identity,
+        older: u64,
+        lengths: *const u16,
+        pdus: usize,
+        octets: *const u8,
+        octets_length: usize,
+        scratch: *mut u64,
+        scratch_length: usize,
+    ) -> Answer;
     pub(crate) fn pusmarke_pool_fresh() -> Pool;
     pub(crate) fn pusmarke_pool_add(pool: Pool, narrow: u64, floor: usize, limit: usize) -> Pool;
     pub(crate) fn pusmarke_pool_data(

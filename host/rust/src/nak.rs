@@ -33,7 +33,7 @@ pub enum Edition {
 }
 
 impl Edition {
-    fn mark(self) -> u64 {
+    pub(crate) fn mark(self) -> u64 {
         match self {
             Edition::Newer => 0,
             Edition::Older => 1,

@@ -1,5 +1,5 @@
 //! The reception of one file.
-use crate::{ffi, sequence::Asker, store, Deferred, Form, Identity, NakSequence, Refusal, Segments, Timed, Width};
+use crate::{ffi, sequence::Asker, store, Deferred, Edition, Form, Identity, NakSequence, Refusal, Segments, Timed, Width};
 
 /// What became of the data of an accepted event.
 #[derive(Clone, Copy, Debug, PartialEq, Eq)]
@@ -129,6 +129,58 @@ impl<'a> Reception<'a> {
     pub fn missing_octets(&self) -> Result<u64, Refusal> {
         let answer = unsafe { ffi::pusmarke_missing_octets(self.record, self.list.as_ptr(), self.list.len()) };
         Ok(answer.accepted()?.first)
+    }
+
+    /// Whether PDUs that mission planning proposes are those to send: back to back in `octets`, `lengths` the octets of each, of the link's
+    /// edition. `scratch` is lent to sort in, two numbers for each eight octets or more; those are 0 afterwards.
+    ///
+    /// # Errors
+    ///
+    /// 13, 20 (more than 16 PDUs), 6 (the lengths do not sum to the octets, or the scratch is too short), and
+    /// [`Refusal::BadPlan`] with the first test that fails and the PDU at fault.
+    ///
+    /// ```
+    /// # use pusmarke::{Edition, Identity, Reception, Refusal, Width};
+    /// # fn main() -> Result<(), Refusal> {
+    /// let identity = Identity { entity_length: 1, number_length: 1, source: 1, number: 7, destination: 2 };
+    /// let (mut list, mut scratch) = ([0; 16], [0; 16]);
+    /// let mut reception = Reception::new(&mut list, Width::Wide)?;
+    /// reception.metadata()?;
+    /// reception.data(20, 80)?;
+    /// let mut octets = [0; 24];
+    /// pusmarke::write_nak(identity, Edition::Newer, (0, 100), &[0, 20], &mut octets)?;
+    /// reception.check_plan(identity, Edition::Newer, &[24], &octets, &mut scratch)?;
+    /// // Octet 19 is not asked for: no PDU is at fault, and 1 is the number of PDUs.
+    /// pusmarke::write_nak(identity, Edition::Newer, (0, 100), &[0, 19], &mut octets)?;
+    /// let refused = reception.check_plan(identity, Edition::Newer, &[24], &octets, &mut scratch);
+    /// assert_eq!(refused, Err(Refusal::BadPlan { test: 5, pdu: 1 }));
+    /// # Ok(())
+    /// # }
+    /// ```
+    pub fn check_plan(
+        &self,
+        identity: Identity,
+        edition: Edition,
+        lengths: &[u16],
+        octets: &[u8],
+        scratch: &mut [u64],
+    ) -> Result<(), Refusal> {
+        let answer = unsafe {
+            ffi::pusmarke_check_plan(
+                self.record,
+                self.list.as_ptr(),
+                self.list.len(),
+                identity,
+                edition.mark(),
+                lengths.as_ptr(),
+                lengths.len(),
+                octets.as_ptr(),
+                octets.len(),
+                scratch.as_mut_ptr(),
+                scratch.len(),
+            )
+        };
+        answer.accepted().map(|_| ())
     }
 
     /// The same reception with a timer that hears of each event: the deferred NAK procedure.

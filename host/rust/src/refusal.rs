@@ -59,6 +59,14 @@ pub enum Refusal {
     BadPool,
     /// 25: a countdown outside 1 to 65,535 ticks, or a limit outside 1 to 255.
     BadTimer,
+    /// 26: the PDUs that were proposed are not those to send.
+    BadPlan {
+        /// The first test that fails: 1 a PDU does not read, 2 another identity, 3 a request outside its scope, 4 an offset asked for twice,
+        /// 5 the union is not what is missing, 6 metadata.
+        test: u64,
+        /// The first PDU at fault, counted from 0; the number of PDUs where something missing is not asked for.
+        pdu: usize,
+    },
     /// A number that this crate does not know: the archive is not the one that the crate belongs to.
     Unknown(u64),
 }
@@ -92,6 +100,7 @@ impl Refusal {
             22 => Refusal::FileSizeError,
             23 => Refusal::BadPool,
             25 => Refusal::BadTimer,
+            26 => Refusal::BadPlan { test: first, pdu: second as usize },
             other => Refusal::Unknown(other),
         })
     }
@@ -123,6 +132,7 @@ impl Refusal {
             Refusal::FileSizeError => 22,
             Refusal::BadPool => 23,
             Refusal::BadTimer => 25,
+            Refusal::BadPlan { .. } => 26,
             Refusal::Unknown(number) => *number,
         }
     }
@@ -165,6 +175,7 @@ impl fmt::Display for Refusal {
             Refusal::FileSizeError => f.write_str("file size does not fit what came"),
             Refusal::BadPool => f.write_str("pool has bad settings, or no such transfer"),
             Refusal::BadTimer => f.write_str("timer is out of bounds"),
+            Refusal::BadPlan { test, pdu } => write!(f, "proposed PDUs fail test {test} at PDU {pdu}"),
             Refusal::Unknown(number) => write!(f, "number {number}, which this crate does not know"),
         }
     }

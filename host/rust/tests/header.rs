@@ -32,6 +32,7 @@ fn from_c(declaration: &str) -> String {
     let name = match name.trim() {
         "uint64_t" => "u64",
         "uint8_t" => "u8",
+        "uint16_t" => "u16",
         "size_t" => "usize",
         "struct pusmarke_answer" => "Answer",
         "struct pusmarke_reception" => "Record",
