@@ -6,7 +6,7 @@ ghost use Prim.Native.Nat.{_+_, _*_, _≤_};
 ghost use lib.ListN.{length, drop};
 ghost use Rattle.ranges.specs.Range.{Coalesced};
 ghost use Rattle.ranges.specs.Store.{counted, wideLimit};
-ghost use Rattle.nak_parser.specs.Step.{requestsGiven};
+ghost use Rattle.nak_parsing.specs.Step.{requestsGiven};
 ghost use Rattle.segment_store.specs.Coalesce.{maximalRuns};
 ghost use Rattle.planning.specs.Plan.{plan, asked};
 ghost use Rattle.planning.specs.Tests.{firstBelow, asksAgain, isRepeat};

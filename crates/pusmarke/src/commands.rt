@@ -7,6 +7,7 @@ use console_calls::inner::reports;
 use console_calls::inner::store;
 use console_calls::inner::timing;
 use console_pdus::inner::pdus;
+use console_plan::inner::plan;
 use console_pool::inner::kept;
 use console_pool::inner::transfers;
 use console_state::inner::state;
@@ -40,6 +41,7 @@ pub enum Command {
     Write,
     Read,
     Nak,
+    Plan,
     Defer,
     Tick,
     Reset,
@@ -140,6 +142,9 @@ fn call_named(word: &[u8]) -> Command {
     if words::same(word, b"nak") {
         return Command::Nak;
     }
+    if words::same(word, b"plan") {
+        return Command::Plan;
+    }
     timer_named(word)
 }
 
@@ -220,6 +225,7 @@ fn arguments(
         Command::Write => words::take_words(line, from, b"nnnnnfnnb*", values),
         Command::Read => words::packet(line, from, buf),
         Command::Nak => words::take_words(line, from, b"nnnnnfnnnb", values),
+        Command::Plan => plan::plan_words(line, from, values, buf),
         Command::Defer => words::take_words(line, from, b"nn", values),
         Command::Tick => words::take_words(line, from, b"i", values),
         Command::Reset => words::take_words(line, from, b"", values),
@@ -279,7 +285,7 @@ fn answer(
     }
 }
 
-// Those too that change what the console keeps of a pool.
+// Those too that change what the console keeps of a pool, or work where it keeps a line's numbers.
 fn answer_any(
     command: Command,
     s: State,
@@ -292,6 +298,7 @@ fn answer_any(
     match command {
         Command::New => start_anew(s, memory, values, out),
         Command::Pool => transfers::pool(s, memory, values, n, out),
+        Command::Plan => plan::plan(s, memory, values, buf, n, out),
         _ => answer(command, s, n, memory, values, buf, out),
     }
 }

@@ -16,8 +16,8 @@ use Rattle.ranges.specs.Store.{counted, wideLimit}
 use Rattle.ranges.proofs.Last.{last-counted}
 use Rattle.ranges.proofs.Covering.{append-covers}
 use Rattle.nak.specs.declared.Edition.{Edition}
-use Rattle.nak_parser.specs.Parser.{requestsIn, parsedOf}
-use Rattle.nak_parser.specs.Step.{requestsGiven}
+use Rattle.nak_parsing.specs.Parser.{requestsIn, parsedOf}
+use Rattle.nak_parsing.specs.Step.{requestsGiven}
 use Rattle.holding.specs.Count.{countBelow, isCovered, octetsBelow}
 use Rattle.holding.proofs.Counting.{covered-set, count-same, lengths}
 use Rattle.segment_store.specs.Coalesce.{maximalRuns}

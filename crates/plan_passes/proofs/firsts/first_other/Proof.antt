@@ -7,7 +7,7 @@ use mathlib.Core.Bool.{Bool, not}
 use mathlib.Core.List.{List}
 use lib.ListN.{length, getD}
 use borrow.Author.Needs.{needs}
-use Rattle.nak_parser.specs.Parser.{parsedOf}
+use Rattle.nak_parsing.specs.Parser.{parsedOf}
 use Rattle.planning.specs.Plan.{plan, startOf, octetsFrom}
 use Rattle.planning.specs.Tests.{firstBelow, sameIdentity, isOther}
 use Rattle.planning.proofs.Firsts.{first-more, first-early}

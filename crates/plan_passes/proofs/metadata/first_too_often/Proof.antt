@@ -8,7 +8,7 @@ use lib.ListN.{length, getD}
 use borrow.Author.Needs.{needs}
 use borrow.Author.Tests.{lt-ltb, le-ltb}
 use Rattle.nak.specs.Request.{metadataAsked}
-use Rattle.nak_parser.specs.Step.{requestsGiven}
+use Rattle.nak_parsing.specs.Step.{requestsGiven}
 use Rattle.planning.specs.Plan.{Plan, plan, startOf, octetsFrom, requestsOf, askedBefore}
 use Rattle.planning.specs.Tests.{firstBelow, isTooOften}
 use Rattle.planning.proofs.Exactly.{metadata-append}

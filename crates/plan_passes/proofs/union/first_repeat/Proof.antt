@@ -7,7 +7,7 @@ use mathlib.Core.List.{List, _++_}
 use lib.ListN.{length, getD, drop}
 use Rattle.ranges.specs.Range.{Range}
 use Rattle.ranges.specs.Store.{counted}
-use Rattle.nak_parser.specs.Step.{requestsGiven}
+use Rattle.nak_parsing.specs.Step.{requestsGiven}
 use Rattle.segment_store.specs.Coalesce.{maximalRuns}
 use Rattle.segment_store.proofs.coalesce.Meaning.{runs-coalesced}
 use Rattle.planning.specs.Plan.{Plan, plan, startOf, octetsFrom, packet, askedBefore}

@@ -9,7 +9,7 @@ use borrow.Author.Needs.{needs}
 use Rattle.octets.proofs.Fields.{octets-all}
 use Rattle.ranges.specs.Range.{Range}
 use Rattle.ranges.specs.Store.{counted}
-use Rattle.nak_parser.specs.Step.{requestsGiven}
+use Rattle.nak_parsing.specs.Step.{requestsGiven}
 use Rattle.holding.specs.Count.{octetsBelow}
 use Rattle.segment_store.specs.Coalesce.{maximalRuns}
 use Rattle.segment_store.proofs.coalesce.Meaning.{runs-coalesced}
