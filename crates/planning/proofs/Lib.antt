@@ -6,3 +6,4 @@ pub mod Own
 pub mod Closes
 pub mod Blame
 pub mod Adds
+pub mod Cases
