@@ -29,7 +29,7 @@ returns c =
     let asking = c .before .before .before .before .before .before .identity-in .ensures in
     let edition = c .before .before .before .before .before .edition-in .ensures in
     let said = c .before .before .before .check-plan .ensures in
-    (c .of-plan .ensures ∙ ap answerOf (rw (own, asking, edition) at (said .0)), rw (own, asking, edition) at (said .1))
+    (c .of-plan .ensures ∙ ap answerOf (rw (own, asking, edition) at (said .0)), rw (own, asking) at (said .1))
 
 pub pusmarke-check-plan-spec : {M : Type 1} → statement M
 pusmarke-check-plan-spec =
