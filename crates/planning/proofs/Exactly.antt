@@ -70,7 +70,7 @@ is-within q r f = go (isMetadata r) refl
     go false e = ap not (inside-true (r .start) (r .end) q .1 (f e))
 
 -- tests 5 and 6, over the PDUs before PDU k
-each-covers : (p : Plan) (ms : List Range) (k : ℕ) → ((j : ℕ) → j < k → isUnwanted p ms j ≡ false) → (x : ℕ) → Covers x (askedBefore p k) → Covers x ms
+pub each-covers : (p : Plan) (ms : List Range) (k : ℕ) → ((j : ℕ) → j < k → isUnwanted p ms j ≡ false) → (x : ℕ) → Covers x (askedBefore p k) → Covers x ms
 each-covers p ms zero f x h = absurd h
 each-covers p ms (suc k) f x h =
     ⊎-elim
@@ -78,7 +78,7 @@ each-covers p ms (suc k) f x h =
     (λ g. none-more ms (requestsOf p k) .0 (f k (omega arith)) x g)
     (covers-append x (askedBefore p k) (requestsOf p k) h)
 
-covers-each : (p : Plan) (k j x : ℕ) → j < k → Covers x (requestsOf p j) → Covers x (askedBefore p k)
+pub covers-each : (p : Plan) (k j x : ℕ) → j < k → Covers x (requestsOf p j) → Covers x (askedBefore p k)
 covers-each p zero j x l h = absurd (omega arith)
 covers-each p (suc k) j x l h = append-covers x (askedBefore p k) (requestsOf p k) (go (decLt j k) (λ m. covers-each p k j x m h))
   where

@@ -33,6 +33,16 @@ first-at t (suc n) h = go (ltb (firstBelow t n) n) (t n) refl refl (first-at t n
     go false true e f i = rw (e, f) f
     go false false e f i = let g : suc n < suc n = rw (e, f) at h in absurd (omega arith)
 
+-- it is at most n
+pub first-most : (t : ℕ → Bool) (n : ℕ) → firstBelow t n ≤ n
+first-most t zero = omega arith
+first-most t (suc n) = go (ltb (firstBelow t n) n) (t n) refl refl (first-most t n)
+  where
+    go : (a b : Bool) → ltb (firstBelow t n) n ≡ a → t n ≡ b → firstBelow t n ≤ n → firstBelow t (suc n) ≤ suc n
+    go true b e f i = rw e (omega arith)
+    go false true e f i = rw (e, f) (omega arith)
+    go false false e f i = rw (e, f) (omega arith)
+
 -- where none passes
 pub first-none : (t : ℕ → Bool) (n : ℕ) → ((k : ℕ) → k < n → t k ≡ false) → firstBelow t n ≡ n
 first-none t zero f = refl
