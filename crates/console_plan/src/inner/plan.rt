@@ -1,6 +1,7 @@
 // plan: mission planning's PDUs, checked against the record.
 ghost use Prim.Native.Nat.{_+_, _≤_};
 ghost use lib.ListN.{length};
+ghost use Rattle.io.specs.Counts.{Counts};
 use answers::PusmarkeAnswer;
 use answers::plan::of_plan;
 use console_pdus::inner::pdus;
@@ -87,10 +88,17 @@ fn lengths_of(values: &[u64; 8274]) -> [u16; 64] {
     let mut lengths = [0; 64];
     let mut i = 0;
     while i < MOST_PDUS {
-        lengths[i] = values[PDUS + 1 + i] as u16;
+        lengths[i] = (values[PDUS + 1 + i] % 65536) as u16;
         i += 1;
     }
     lengths
+}
+
+// How many of the first n lengths there are.
+fn first_lengths(lengths: &[u16], n: usize) -> usize
+    ensures { λ r. ⌜ Counts r (now (lengths .entry)) ⌝ }
+{
+    part::at_most(n, lengths.len())
 }
 
 // The requests are sorted where a line's numbers are kept, behind those of this one: there is room for those of every line of at most 16 PDUs.
@@ -99,20 +107,22 @@ fn checked(
     memory: &[u64],
     identity: Identity,
     lengths: &[u16],
+    pdus: usize,
     octets: &[u8],
     kept: &mut [u64],
 ) -> PusmarkeAnswer {
+    let n = first_lengths(lengths, pdus);
     let lent = part::first_numbers(memory, s.length);
     let rec = s.rec;
     let edition = state::edition(s);
     let to = part::first_numbers(kept, WORDS);
-    let from = part::at_most(PDUS + 1 + part::at_most(lengths.len(), MOST_PDUS), to);
+    let from = part::at_most(PDUS + 1 + part::at_most(pdus, MOST_PDUS), to);
     of_plan(check_plan(
         rec,
         &memory[..lent],
         identity,
         edition,
-        lengths,
+        &lengths[..n],
         octets,
         &mut kept[from..to],
     ))
@@ -131,7 +141,7 @@ pub fn plan(
     let pdus = part::at_most(values[PDUS] as usize, MOST_PDUS);
     let lengths = lengths_of(values);
     let size = part::first_octets(buf, n);
-    let a = checked(s, memory, identity, &lengths[..pdus], &buf[..size], values);
+    let a = checked(s, memory, identity, &lengths, pdus, &buf[..size], values);
     if a.refusal != 0 {
         return refusals::show_refusal(s, a, out);
     }
