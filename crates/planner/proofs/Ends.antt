@@ -71,6 +71,6 @@ module _ (rec : Reception) (xs : List ℕ) (d : Identity) (p : Plan) (ys : List 
     tested-by o zs us e h u = (
       e ∙ sym (first-none (planChecks rec xs d p (length ys)) (firstOf (planTests rec xs d p) (accepted [])) n),
       u
-      ∙ cleared-by ys zs (roomFor (p .octets)) h
-      ∙ ap (λ (q : Outcome). lent q (cleared (roomFor (p .octets)) ys) ys) (sym (first-none (planChecks rec xs d p (length ys)) (accepted []) n)),
+          ∙ cleared-by ys zs (roomFor (p .octets)) h
+          ∙ ap (λ (q : Outcome). lent q (cleared (roomFor (p .octets)) ys) ys) (sym (first-none (planChecks rec xs d p (length ys)) (accepted []) n)),
     )

@@ -11,7 +11,6 @@ ghost use Prim.Native.Nat.{_≤_, _*_};
 ghost use Rattle.ranges.specs.Range.{Coalesced};
 ghost use Rattle.ranges.specs.Store.{counted};
 ghost use Rattle.planning.specs.Check.{mostPdus, sumOf, roomFor};
-use record_checks::inner::record_checks;
 use lists::inner::moves::tidy;
 use nak::Edition;
 use nak::Identity;
@@ -23,6 +22,7 @@ use plan_passes::metadata;
 use plan_passes::union;
 use planning::PlanAnswer;
 use reception::Reception;
+use record_checks::inner::record_checks;
 
 // The most PDUs of a plan.
 const MOST_PDUS: usize = 16;

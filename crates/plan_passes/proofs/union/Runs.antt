@@ -52,10 +52,10 @@ pub runs-more : (qs rs : List Range) → maximalRuns (maximalRuns qs ++ rs) ≡ 
 runs-more qs rs =
     unique (maximalRuns (maximalRuns qs ++ rs)) (maximalRuns (qs ++ rs)) (runs-coalesced (maximalRuns qs ++ rs)) (runs-coalesced (qs ++ rs))
     (λ x.
-        let s = same-append (maximalRuns qs) qs rs (runs-same qs) x in (
-          λ h. runs-covers x (qs ++ rs) .1 (s .0 (runs-covers x (maximalRuns qs ++ rs) .0 h)),
-          λ h. runs-covers x (maximalRuns qs ++ rs) .1 (s .1 (runs-covers x (qs ++ rs) .0 h)),
-        ))
+    let s = same-append (maximalRuns qs) qs rs (runs-same qs) x in (
+      λ h. runs-covers x (qs ++ rs) .1 (s .0 (runs-covers x (maximalRuns qs ++ rs) .0 h)),
+      λ h. runs-covers x (maximalRuns qs ++ rs) .1 (s .1 (runs-covers x (qs ++ rs) .0 h)),
+    ))
 
 pub runs-none : maximalRuns [] ≡ []
 unfolding maximalRuns

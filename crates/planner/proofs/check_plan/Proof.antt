@@ -67,8 +67,7 @@ enum-told c = search needs
 plan-tests-requires : tie.Need-plan-tests-requires
 plan-tests-requires c κs =
     let b = fromP (c .before) in
-    let n = passed (c .before) in
-    (
+    let n = passed (c .before) in (
       (held-room (rec b) (xs b) (d b) (p b) (ys b) n, held-whole (rec b) (xs b) (d b) (p b) (ys b) n),
       (
         (few (rec b) (xs b) (d b) (p b) (ys b) n, sums (rec b) (xs b) (d b) (p b) (ys b) n),

@@ -125,10 +125,9 @@ first-unread-requires c κs = search needs
 
 returns : tie.Need-returns
 returns c =
-    let s = c .before .before .before .before .before .before in
-    (
+    let s = c .before .before .before .before .before .before in (
       at-fault 1 (pdus (p s)) (isUnread (p s)) false (c .before .first-unread .result) (behind1 (rec s) (xs s) (d s) (p s)) (accepted [])
-      (c .before .first-unread .ensures) (c .if1 .taken),
+          (c .before .first-unread .ensures) (c .if1 .taken),
       refl,
     )
 
@@ -138,11 +137,10 @@ first-other-requires c κs = search needs
 returns-2 : tie.Need-returns-2
 returns-2 c =
     let b = c .before .before in
-    let s = s1 b in
-    (
+    let s = s1 b in (
       at-fault 2 (pdus (p s)) (isOther (p s) (d s)) false (c .before .first-other .result) (behind2 (rec s) (xs s) (d s) (p s)) (accepted [])
-      (c .before .first-other .ensures) (c .if2 .taken)
-      ∙ sym (past1 b),
+          (c .before .first-other .ensures) (c .if2 .taken)
+          ∙ sym (past1 b),
       refl,
     )
 
@@ -152,11 +150,10 @@ first-beyond-requires c κs = search needs
 returns-3 : tie.Need-returns-3
 returns-3 c =
     let b = c .before .before in
-    let s = s2 b in
-    (
+    let s = s2 b in (
       at-fault 3 (pdus (p s)) (isBeyond (p s)) false (c .before .first-beyond .result) (behind3 (rec s) (xs s) (d s) (p s)) (accepted [])
-      (c .before .first-beyond .ensures) (c .if3 .taken)
-      ∙ sym (past2 b),
+          (c .before .first-beyond .ensures) (c .if3 .taken)
+          ∙ sym (past2 b),
       refl,
     )
 
@@ -170,11 +167,10 @@ returns-4 : tie.Need-returns-4
 returns-4 c =
     let f = c .before .before .before .before in
     let b = f .before .before in
-    let s = s3 b in
-    (
+    let s = s3 b in (
       at-fault 4 (pdus (p s)) (isRepeat (p s)) false (f .first-repeat .result .pdu) (behind4 (rec s) (xs s) (d s) (p s)) (accepted [])
-      (f .first-repeat .ensures .0) (c .if4 .taken)
-      ∙ sym (past3 b),
+          (f .first-repeat .ensures .0) (c .if4 .taken)
+          ∙ sym (past3 b),
       f .first-repeat .ensures .1 .1 .1,
     )
 
@@ -191,13 +187,12 @@ returns-5 : tie.Need-returns-5
 returns-5 c =
     let b = c .before .before in
     let e = e4 b in
-    let s = s4 e in
-    (
+    let s = s4 e in (
       met 5 (pdus (p s)) (isUnwanted (p s) (ms s)) (isLeftOut (p s) (ms s)) (c .first-unwanted .result) (behind5 (rec s) (xs s) (d s) (p s)) (accepted [])
-      (c .first-unwanted .ensures)
-      (union-other (p s) (ms s) _ (runs e) (s .pre .0 .1)
-      (λ h. true≢false (sym (b .same-pairs .ensures .1 h) ∙ not-true (b .same-pairs .result) (c .before .if5 .taken))))
-      ∙ sym (past4 e),
+          (c .first-unwanted .ensures)
+          (union-other (p s) (ms s) _ (runs e) (s .pre .0 .1)
+          (λ h. true≢false (sym (b .same-pairs .ensures .1 h) ∙ not-true (b .same-pairs .result) (c .before .if5 .taken))))
+          ∙ sym (past4 e),
       f4 e .first-repeat .ensures .1 .1 .1,
     )
 
@@ -214,10 +209,9 @@ returns-6 : tie.Need-returns-6
 returns-6 c =
     let f = c .before .before in
     let s = s6 f in
-    let w = wanted (rec s) in
-    (
+    let w = wanted (rec s) in (
       at-fault 6 (pdus (p s)) (isTooOften (p s) w) (isAbsent (p s) w) (f .first-too-often .result .pdu) [] (accepted []) (often f) (c .if6 .taken)
-      ∙ sym (past5 (e5 f)),
+          ∙ sym (past5 (e5 f)),
       f4 (e4 (e5 f .before)) .first-repeat .ensures .1 .1 .1,
     )
 
@@ -231,10 +225,9 @@ returns-7 c =
     let s = s6 f in
     let w = wanted (rec s) in
     let n : pdus (p s) ≡ firstBelow (isTooOften (p s) w) (pdus (p s)) = omega (arith, e .if6 .left, often f, first-most (isTooOften (p s) w) (pdus (p s))) in
-    let l : metadataAsked (asked (p s)) < w = omega (arith, times e, c .if7 .taken, f .before .times-wanted .ensures) in
-    (
+    let l : metadataAsked (asked (p s)) < w = omega (arith, times e, c .if7 .taken, f .before .times-wanted .ensures) in (
       lacking 6 (pdus (p s)) (isTooOften (p s) w) (isAbsent (p s) w) (pdus (p s)) [] (accepted []) n (omega arith) (lt-ltb (metadataAsked (asked (p s))) w l)
-      ∙ sym (past5 (e5 f)),
+          ∙ sym (past5 (e5 f)),
       f4 (e4 (e5 f .before)) .first-repeat .ensures .1 .1 .1,
     )
 
@@ -247,12 +240,11 @@ returns-8 c =
     let f = f6 e in
     let s = s6 f in
     let w = wanted (rec s) in
-    let l : w ≤ metadataAsked (asked (p s)) = omega (arith, times e, c .if7 .left, f .before .times-wanted .ensures) in
-    (
+    let l : w ≤ metadataAsked (asked (p s)) = omega (arith, times e, c .if7 .left, f .before .times-wanted .ensures) in (
       sym
-      (past5 (e5 f)
-      ∙ past 6 (pdus (p s)) (isTooOften (p s) w) (isAbsent (p s) w) (f .first-too-often .result .pdu) [] (accepted []) (often f) (e .if6 .left)
-      (le-ltb (metadataAsked (asked (p s))) w l)),
+          (past5 (e5 f)
+          ∙ past 6 (pdus (p s)) (isTooOften (p s) w) (isAbsent (p s) w) (f .first-too-often .result .pdu) [] (accepted []) (often f) (e .if6 .left)
+          (le-ltb (metadataAsked (asked (p s))) w l)),
       f4 (e4 (e5 f .before)) .first-repeat .ensures .1 .1 .1,
     )
 

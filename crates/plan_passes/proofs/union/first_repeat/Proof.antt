@@ -146,8 +146,7 @@ returns c =
     let b = back t in
     let l = b .before .before .loop in
     let a = start b .args in
-    let h = b .before .loop-test .taken in
-    (
+    let h = b .before .loop-test .taken in (
       sym (first-early (isRepeat (own b)) (l .k) (length (a .lengths .now)) (l .inv .2) (tested t ∙ c .if1 .taken) h),
       (
         λ e. absurd (omega (arith, e, h)),
@@ -185,8 +184,7 @@ returns-2 c =
     let a = s .args in
     let e : l .k ≡ length (a .lengths .now) = omega arith in
     let p : startOf (a .lengths .now) (length (a .lengths .now)) ≡ length (a .buf .now) = s .pre .0 .1 in
-    let q : l .at ≡ length (a .buf .now) = l .inv .1 ∙ ap (startOf (a .lengths .now)) e ∙ p in
-    (
+    let q : l .at ≡ length (a .buf .now) = l .inv .1 ∙ ap (startOf (a .lengths .now)) e ∙ p in (
       rw (← e) (sym (l .inv .2)),
       (λ h. rw (← e) (l .inv .4), (omega (arith, q, l .inv .5, l .inv .3, s .pre .1), l .inv .6)),
     )

@@ -52,8 +52,7 @@ octets-in-requires-2 c κs =
     let s = start g in
     let a = s .args in
     let e = g .gather .ensures in
-    let h : 2 * g .gather .result ≤ length (g .gather .last .1 .1 .0) = omega (arith, c .before .before .scratch .given, e .1 .0, s .pre .0) in
-    (
+    let h : 2 * g .gather .result ≤ length (g .gather .last .1 .1 .0) = omega (arith, c .before .before .scratch .given, e .1 .0, s .pre .0) in (
       h,
       (
         rw (e .0) (runs-coalesced (all g)),
@@ -80,11 +79,10 @@ returns c =
     let g = d .before .before .before .before in
     let s = start g in
     let a = s .args in
-    let octets = octets-all (a .packet .now) (λ i. omega (arith, g .before .before .before .before .before .shared-slice-known .given i)) in
-    (
+    let octets = octets-all (a .packet .now) (λ i. omega (arith, g .before .before .before .before .before .shared-slice-known .given i)) in (
       ap not (c .has-octets .ensures)
-      ∙ again-added (a .top) (s .pre .1 .1) (a .edition) (a .packet .now) (held g) octets
-      (g .before .before .octets-in .result) (d .octets-in2 .result) (before-are g) (after-are d),
+          ∙ again-added (a .top) (s .pre .1 .1) (a .edition) (a .packet .now) (held g) octets
+          (g .before .before .octets-in .result) (d .octets-in2 .result) (before-are g) (after-are d),
       g .gather .ensures,
     )
 
