@@ -38,7 +38,8 @@ returns : tie.Need-returns
 returns c =
     let b = c .before .before .before .before .before .before .before .before .before in
     let a = c .before .before .before .before .before .before .before .before .before .before .before .before .before .args in
-    let e = rw (c .before .before .before .before .before .before .before .put-requests .ensures, b .lying-in .ensures, b .before .parse .ensures) at (c .before .before .coalesce-counted .ensures) in (
+    let e = rw (c .before .before .before .before .before .before .before .put-requests .ensures, b .lying-in .ensures, b .before .parse .ensures)
+    at (c .before .before .coalesce-counted .ensures) in (
       gathered (a .edition) (a .packet .now) (a .scratch .now) (a .m) (omega arith) _ _ (e .0) (e .1),
       (
         gathered-most (a .edition) (a .packet .now) (a .scratch .now) (a .m) (omega arith) _ _ (e .0) (e .1),
