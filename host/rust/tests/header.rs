@@ -106,7 +106,7 @@ fn fields_of_rust(text: &str, name: &str) -> Vec<(String, String)> {
 fn functions() {
     let c = functions_of_c(&bare(&text("../include/pusmarke.h")));
     let rust = functions_of_rust(&text("src/ffi.rs"));
-    assert_eq!(c.len(), 30);
+    assert_eq!(c.len(), 31);
     assert_eq!(c, rust);
 }
 
