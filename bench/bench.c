@@ -50,6 +50,9 @@ struct pusmarke_heard pusmarke_tick(struct pusmarke_deferred);
 struct pusmarke_heard pusmarke_reset(struct pusmarke_deferred, struct pusmarke_reception, const uint64_t *, size_t);
 struct pusmarke_heard pusmarke_deferred_data(
     struct pusmarke_reception *, uint64_t *, size_t, uint64_t, uint64_t, struct pusmarke_deferred);
+struct pusmarke_answer pusmarke_check_plan(
+    struct pusmarke_reception, const uint64_t *, size_t, struct pusmarke_identity, uint64_t, const uint16_t *, size_t,
+    const uint8_t *, size_t, uint64_t *, size_t);
 struct pusmarke_pool pusmarke_pool_fresh(void);
 struct pusmarke_pool pusmarke_pool_add(struct pusmarke_pool, uint64_t, size_t, size_t);
 struct pusmarke_answer pusmarke_pool_data(struct pusmarke_pool *, uint64_t *, size_t, size_t, uint64_t, uint64_t);
@@ -463,6 +466,40 @@ static void sequence(size_t n)
     rust_handler_free(handler);
 }
 
+// A planner's PDUs for all n ranges, 500 requests in each, in the order of the list `asked`; all scopes are the whole file.
+static void plan(size_t n, const uint64_t *asked)
+{
+    static uint64_t scratch[NUMBERS + 128];
+    uint16_t lengths[BUDGET];
+    size_t pdus = 0, at = 0;
+    struct pusmarke_reception record = { end_of(n - 1), n, narrow, 0, 0, 0 };
+    for (size_t i = 0; i < n; i += 500) {
+        size_t requests = n - i < 500 ? n - i : 500, total = 16 + 8 * requests;
+        answer = pusmarke_write(identity, form, 0, record.progress, asked + 2 * i, 2 * requests, octets + at, total);
+        same(answer.refusal == 0, "writing");
+        lengths[pdus++] = (uint16_t)total;
+        at += total;
+    }
+    ascending(n);
+    COUNT(0, answer = pusmarke_check_plan(
+                 record, list, NUMBERS, identity, 0, lengths, pdus, octets, at, scratch, sizeof scratch / sizeof *scratch));
+    same(answer.refusal == 0, "answer");
+}
+
+static void plan_ascending(size_t n)
+{
+    ascending(n);
+    memcpy(other, list, sizeof other);
+    plan(n, other);
+}
+
+static void plan_random(size_t n)
+{
+    shuffled(n);
+    memcpy(other, list, sizeof other);
+    plan(n, other);
+}
+
 // One PDU of the first requests, as many as a PDU of LARGEST octets has at most.
 static size_t one_pdu(size_t n) { return n < 126 ? n : 126; }
 
@@ -562,6 +599,8 @@ static const struct {
     { "data in order, in a pool of eight", PORT, pool_in_order },
     { "data that fills a hole, in a pool of eight", PORT, pool_fills },
     { "NAK sequence", ALL, sequence },
+    { "check a plan, ascending", PORT, plan_ascending },
+    { "check a plan, random order", PORT, plan_random },
     { "read one PDU", PORT, read_pdu },
     { "read one PDU with a trailer", PORT, read_crc },
     { "write one PDU", PORT, write_plain },
