@@ -18,7 +18,7 @@ use Rattle.nak_parsing.specs.Parser.{requestsIn, parsedOf}
 use Rattle.nak_parsing.specs.Step.{requestsGiven}
 use Rattle.planning.specs.Check.{roomFor}
 use Rattle.plan_packets.specs.Requests.{lyingIn}
-use Rattle.plan_packets.specs.declared.requests.Requests.{Requests}
+use Rattle.plan_packets.specs.declared.inner.requests.Requests.{Requests}
 use Rattle.plan_packets.proofs.Puts.{length-requests}
 use Rattle.plan_packets.proofs.Given.{lies, few}
 

@@ -1,1 +1,4 @@
 pub mod Starts
+pub mod Runs
+pub mod Numbers
+pub mod Pairs

@@ -17,9 +17,9 @@ use nak::Identity;
 use nak_checks::inner::bad_identity;
 use outcomes::Refusal;
 use outcomes::Verdict;
-use plan_passes::firsts;
-use plan_passes::metadata;
-use plan_passes::union;
+use plan_passes::inner::firsts;
+use plan_passes::inner::metadata;
+use plan_passes::inner::union;
 use planning::PlanAnswer;
 use reception::Reception;
 use record_checks::inner::record_checks;
@@ -27,7 +27,7 @@ use record_checks::inner::record_checks;
 // The most PDUs of a plan.
 const MOST_PDUS: usize = 16;
 
-// The checks of a call, `octets` the length of the buffer and `given` that of the list lent to sort in.
+// The checks of a call, `given` the length of the list lent to sort in.
 pub fn plan_checks(
     rec: Reception,
     list: &[u64],
