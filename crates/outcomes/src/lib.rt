@@ -1,11 +1,13 @@
 // The refusals of every call, once, in numbers too, and what a chain of checks says.
+#![tactic(auto)]
+
 ghost use Rattle.std.specs.Prelude.{◌≡◌, [], ◌∷◌};
 ghost use Rattle.outcomes.specs.Outcome.{refused};
 ghost use Rattle.outcomes.specs.Refusal.{refusing};
 ghost use Rattle.outcomes.specs.Told.{told_of};
 
 // A refusal with what it carries. Its number is in specs/Refusal.antt, its condition in docs/REFUSALS.md.
-#[derive(Drop)]
+#[derive(Clone, Copy)]
 pub enum Refusal {
     StoreFull,
     EmptySegment,
@@ -39,14 +41,14 @@ pub enum Refusal {
 }
 
 // What the checks of a call say: it may go on, or the refusal.
-#[derive(Drop)]
+#[derive(Clone, Copy)]
 pub enum Verdict {
     Passed,
     Refused(Refusal),
 }
 
 // A refusal in numbers: its own, and the values that it carries, 0 where there is none.
-#[derive(Drop)]
+#[derive(Clone, Copy)]
 pub struct Told {
     pub number: u64,
     pub first: u64,
