@@ -1,4 +1,6 @@
 // Big-endian fields of octets, and the large file flag that sets the length of a file offset's field.
+#![tactic(auto)]
+
 ghost use Rattle.std.specs.Prelude.{◌≡◌};
 ghost use Rattle.octets.specs.Flag.{field_length, largest_of};
 ghost use Rattle.octets.specs.Octets.{fits};
@@ -21,7 +23,7 @@ pub fn does_fit(f: usize, v: u64) -> bool
     rest == 0
 }
 
-#[derive(Drop)]
+#[derive(Clone, Copy)]
 pub enum LargeFileFlag {
     Normal,
     Large,
