@@ -12,7 +12,7 @@ use Rattle.crc.specs.Crc.{bits_of, message, divided, shifted}
 pub divided-append : (r : ℕ) (xs ys : List ℕ) → divided r (xs ++ ys) ≡ divided (divided r xs) ys
 unfolding shifted
 divided-append r [] ys = refl
-divided-append r (x ∷ xs) ys = divided-append _ xs ys
+divided-append r (x ∷ xs) ys = divided-append (shifted r x) xs ys
 
 -- the octets in the places from i up to `to`
 abbrev pub between : ℕ → ℕ → List ℕ → List ℕ

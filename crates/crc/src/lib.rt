@@ -1,4 +1,6 @@
 // The CRC of a packet's trailer (document 02, C-11): 16 bits, polynomial x^16 + x^12 + x^5 + 1, preset to ones.
+#![tactic(auto)]
+
 ghost use Rattle.std.specs.Prelude.{◌≡◌, ◌-◌, ◌/◌, ◌^◌, ◌<◌, min, take, drop};
 ghost use Rattle.std.specs.Int.Bits.{bit_xor};
 ghost use Rattle.crc.specs.Crc.{message, divided, crc_of};
