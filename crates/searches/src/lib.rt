@@ -1,4 +1,6 @@
 // A lent flat list searched: the checks 10 and 8, and the places where a change begins and ends.
+#![tactic(auto)]
+
 ghost use Rattle.std.specs.Prelude.{◌≡◌};
 ghost use Rattle.ranges.specs.Store.{is_bad_store};
 

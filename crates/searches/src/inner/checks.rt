@@ -108,7 +108,7 @@ pub fn bad_shape(list: &[u64], count: usize) -> bool
 }
 
 // What checks 10 and 8 say; of a list that check 10 refuses, `coalesced` says nothing.
-#[derive(Drop)]
+#[derive(Clone, Copy)]
 pub struct Checked {
     pub bad: bool,
     pub coalesced: bool,
