@@ -10,7 +10,7 @@ use lists::inner::pairs::{end_at, start_at};
 use ranges::inner::cut::{Part, Remains};
 
 // What a cut answers: what is left, and the part that has left, or would have where there is no room.
-#[derive(Drop)]
+#[derive(Clone, Copy)]
 pub struct CutDone {
     pub remains: Remains,
     pub part: Part,

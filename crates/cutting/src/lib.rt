@@ -1,2 +1,4 @@
 // Offsets that leave a coalesced list where it lies.
+#![tactic(auto)]
+
 pub mod inner;
