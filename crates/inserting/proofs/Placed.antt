@@ -8,7 +8,7 @@ use lib.ListN.{length, drop, set, length-append}
 use lib.Seq.{drop-drop}
 use lib.Dec.{leb-zero}
 use borrow.Author.Tests.{lt-ltb, le-ltb}
-use Rattle.ranges.specs.Range.{Range, range, Above, Coalesced, place, range_at, last_end}
+use Rattle.ranges.specs.Range.{Range, range, Above, Coalesced, place, last_end}
 use Rattle.ranges.specs.Store.{counted, stored, start_at, end_at}
 use Rattle.ranges.specs.Insert.{insert}
 use Rattle.ranges.specs.Inner.Cut.{from, first, behind, cut_answer, cut_list}

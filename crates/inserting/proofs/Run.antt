@@ -2,18 +2,18 @@
 use mathlib.Core.Path.{◌≡◌, refl, sym, ap, ap₂, ◌∙◌}
 use mathlib.Core.Bool.{Bool, true, false}
 use mathlib.Core.List.{List, [], ◌∷◌, ◌++◌, append_assoc}
-use Prim.Native.Nat.{ℕ, zero, suc, ◌+◌, ◌*◌, ◌-◌, ◌≤◌, ◌<◌, min, max}
+use Prim.Native.Nat.{ℕ, zero, suc, ◌+◌, ◌-◌, ◌≤◌, ◌<◌, min, max}
 use native.Mathlib.Omega.{arith}
 use lib.ListN.{length, take, drop}
 use lib.Seq.{drop-drop}
-use lib.Dec.{ltb, leb}
-use borrow.Author.Tests.{lt-ltb, le-ltb, le-leb, lt-leb, ltb-true, ltb-false}
+use lib.Dec.{ltb}
+use borrow.Author.Tests.{le-leb, lt-leb, ltb-true, ltb-false}
 use Rattle.ranges.specs.Range.{Range, range, Above, Coalesced, place, range_at}
 use Rattle.ranges.specs.Insert.{joined, absorb, insert}
-use Rattle.ranges.specs.Inner.Cut.{from, past, behind}
+use Rattle.ranges.specs.Inner.Cut.{from, behind}
 use Rattle.ranges.specs.Inner.Moves.{replaced}
 use Rattle.ranges.proofs.Halving.{place-within, above_at}
-use Rattle.inserting.specs.Inner.{reaches, reaching}
+use Rattle.inserting.specs.Inner.{reaching}
 
 -- the end of what a run of k ranges and e make together
 abbrev pub high : ℕ → ℕ → List Range → ℕ
