@@ -1,7 +1,7 @@
 // What add answers.
 use outcomes::Refusal;
 
-#[derive(Drop)]
+#[derive(Clone, Copy)]
 pub enum AddAnswer {
     Added(usize),
     Refused(Refusal),

@@ -1,7 +1,7 @@
 // What coalesce answers.
 use outcomes::Refusal;
 
-#[derive(Drop)]
+#[derive(Clone, Copy)]
 pub enum CoalesceAnswer {
     Coalesced(usize),
     Refused(Refusal),

@@ -1,7 +1,7 @@
 // What insert answers.
 use outcomes::Refusal;
 
-#[derive(Drop)]
+#[derive(Clone, Copy)]
 pub enum InsertAnswer {
     Inserted(usize),
     Refused(Refusal),

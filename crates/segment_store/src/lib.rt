@@ -1,4 +1,6 @@
 // The store of lost segments: what a store is and what its calls answer. The calls are in the crate lost_segments.
+#![tactic(auto)]
+
 use ranges::Width;
 
 pub mod add;
@@ -9,7 +11,7 @@ pub mod segment_in_store;
 pub mod write_segments_to_bytes;
 
 // What a store holds besides the list that it is lent: how many pairs are counted, and its width.
-#[derive(Drop)]
+#[derive(Clone, Copy)]
 pub struct Store {
     pub count: usize,
     pub width: Width,

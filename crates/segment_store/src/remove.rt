@@ -1,7 +1,7 @@
 // What remove answers: which part of a range left, the range's index in the list before, and the count afterwards.
 use outcomes::Refusal;
 
-#[derive(Drop)]
+#[derive(Clone, Copy)]
 pub enum RemoveAnswer {
     Whole(usize, usize),
     Left(usize, usize),

@@ -1,7 +1,7 @@
 // What segment_in_store answers.
 use outcomes::Refusal;
 
-#[derive(Drop)]
+#[derive(Clone, Copy)]
 pub enum InStoreAnswer {
     Yes,
     No,

@@ -1,7 +1,7 @@
 // What write_segments_to_bytes answers.
 use outcomes::Refusal;
 
-#[derive(Drop)]
+#[derive(Clone, Copy)]
 pub enum WriteAnswer {
     Written(usize),
     Refused(Refusal),

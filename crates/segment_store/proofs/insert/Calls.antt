@@ -10,7 +10,7 @@ use lib.Dec.{ltb}
 use borrow.Author.Tests.{le-ltb, eq-eqb, ne_eqb}
 use Rattle.ranges.specs.Range.{Range, range}
 use Rattle.ranges.specs.Store.{counted, capacity, limit_of, is_bad_store, any_above, stored, flat}
-use Rattle.outcomes.specs.Outcome.{Outcome, accepted}
+use Rattle.outcomes.specs.Outcome.{accepted}
 use Rattle.outcomes.specs.Refusal.{refusing}
 use Rattle.outcomes.specs.declared.Refusal.TheVariants as refusal
 use Rattle.ranges.proofs.Test.{or_false}
@@ -23,7 +23,7 @@ use Rattle.segment_store.specs.Add.{add_outcome, add_list}
 use Rattle.segment_store.specs.Coalesce.{maximal_runs, coalesce_outcome, coalesce_list}
 use Rattle.segment_store.specs.Insert.{insert_leaves, insert_outcome, insert_list, Enters}
 use Rattle.segment_store.proofs.add.Meaning.{add-accepted, add_ranges}
-use Rattle.segment_store.proofs.coalesce.Meaning.{coalesce_accepted, coalesce_ranges, coalesce_answers}
+use Rattle.segment_store.proofs.coalesce.Meaning.{coalesce_ranges, coalesce_answers}
 use Rattle.segment_store.proofs.insert.Runs.{runs_inserted}
 use Rattle.segment_store.proofs.insert.Meaning.{insert-accepted, insert_ranges, insert_merges}
 

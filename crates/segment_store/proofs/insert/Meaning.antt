@@ -7,17 +7,16 @@ use mathlib.Core.Logic.{◌⊎◌, inl, inr, ⊎_elim, ◌↔◌}
 use Prim.Native.Nat.{ℕ, ◌≤◌, ◌<◌}
 use native.Mathlib.Omega.{arith}
 use lib.ListN.{length, get_or}
-use lib.Dec.{ltb, eqb}
-use borrow.Author.Tests.{eqb-false, ltb-true, ltb-false, eq-eqb, ne_eqb, le-ltb, lt-ltb, not-false}
+use lib.Dec.{ltb}
+use borrow.Author.Tests.{eqb-false, ltb-true, ltb-false, ne_eqb, le-ltb, lt-ltb, not-false}
 use Rattle.ranges.specs.Range.{Range, range, In, Covers, Coalesced}
 use Rattle.ranges.specs.Run.{RunsOf}
-use Rattle.ranges.specs.Insert.{insert}
 use Rattle.ranges.specs.Store.{counted, capacity, limit_of, is_bad_store, either_above, stored}
 use Rattle.outcomes.specs.Outcome.{Outcome, accepted, lent}
 use Rattle.outcomes.specs.Refusal.{refusing}
 use Rattle.outcomes.specs.declared.Refusal.TheVariants as refusal
 use Rattle.outcomes.specs.Checks.{NoneOf}
-use Rattle.outcomes.proofs.FirstOf.{first-none, first-accepted}
+use Rattle.outcomes.proofs.FirstOf.{first-none}
 use Rattle.outcomes.proofs.Refusals.{lent_old}
 use Rattle.outcomes.proofs.Ends.{Other, none_other}
 use Rattle.ranges.proofs.Test.{or_false, coalesced_of, of_coalesced}

@@ -5,7 +5,7 @@ use mathlib.Core.Path.{◌≡◌, refl, sym, ap, ◌∙◌}
 use mathlib.Core.Bool.{Bool, true, false, not, true≢false}
 use mathlib.Core.List.{List, [], ◌∷◌}
 use mathlib.Core.Logic.{◌⊎◌, inl, inr, ⊎_elim, ◌↔◌}
-use Prim.Native.Nat.{ℕ, suc, ◌-◌, ◌≤◌, ◌<◌}
+use Prim.Native.Nat.{ℕ, ◌-◌, ◌≤◌, ◌<◌}
 use native.Mathlib.Omega.{arith}
 use lib.ListN.{length, get_or}
 use lib.Dec.{ltb, eqb}
@@ -20,7 +20,7 @@ use Rattle.outcomes.specs.Checks.{NoneOf}
 use Rattle.outcomes.proofs.FirstOf.{first-none}
 use Rattle.outcomes.proofs.Refusals.{lent_old}
 use Rattle.ranges.proofs.Test.{or_false, or_true, coalesced_of, of_coalesced}
-use Rattle.ranges.proofs.Some.{some_member, inside_true, inside-set, shares-set}
+use Rattle.ranges.proofs.Some.{inside-set, shares-set}
 use Rattle.ranges.proofs.Holder.{holder, one-holder, member_at, at_member}
 use Rattle.ranges.proofs.Covering.{at_covers}
 use Rattle.ranges.proofs.Good.{good}
