@@ -1,2 +1,4 @@
 // The store's call by which offsets leave: remove.
+#![tactic(auto)]
+
 pub mod remove;
