@@ -3,8 +3,6 @@
 use native.Mathlib.Omega.{arith}
 use mathlib.Core.Path.{◌≡◌, refl, sym, ap}
 use Prim.Native.Nat.{ℕ}
-use lib.ListN.{get_or}
-use Rattle.outcomes.specs.Outcome.{Outcome}
 use Rattle.outcomes.specs.declared.Refusal.{Refusal}
 use Rattle.outcomes.proofs.Refusals.{one-refusal, no_refusal, value}
 use Rattle.reception.specs.Data.{data_case}

@@ -9,7 +9,7 @@ use native.Mathlib.Omega.{arith}
 use Rattle.ranges.specs.declared.Width.{Width}
 use Rattle.ranges.proofs.Test.{or-none}
 use Rattle.reception.specs.declared.Reception.{Reception}
-use Rattle.reception.proofs.eof.Accepted.{EofTaken, eof_taken}
+use Rattle.reception.proofs.eof.Accepted.{eof_taken}
 use Rattle.reception.specs.History.{Event, Data, Metadata, Eof, State, fresh, is_accepted, step, run, is_metadata_come, metadata_came, end_by, largest_end, size_by, told_size}
 
 -- a refused event leaves the reception as it was

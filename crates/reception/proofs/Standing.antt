@@ -14,7 +14,6 @@ use Rattle.ranges.specs.declared.Width.{Width}
 use Rattle.ranges.proofs.Stored.{counted-stored, take-stored, length-stored}
 use Rattle.ranges.proofs.Good.{good-store}
 use Rattle.ranges.proofs.Without.{part-one, part_none}
-use Rattle.reception.specs.declared.Reception.{Reception}
 use Rattle.reception.specs.Record.{is_bad_record, is_waiting, is_wrong_size, waiting_ranges, moved, ended, Passed}
 use Rattle.reception.specs.Data.{data_ranges}
 use Rattle.reception.specs.History.{State, ranges_of, fresh}

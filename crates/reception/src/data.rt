@@ -2,7 +2,7 @@
 use crate::Reception;
 use outcomes::Refusal;
 
-#[derive(Drop)]
+#[derive(Clone, Copy)]
 pub enum DataAnswer {
     Noticed,
     Kept,
@@ -10,7 +10,7 @@ pub enum DataAnswer {
 }
 
 // What a caller has after a step: the answer, and the record afterwards.
-#[derive(Drop)]
+#[derive(Clone, Copy)]
 pub struct DataDone {
     pub answer: DataAnswer,
     pub rec: Reception,

@@ -2,14 +2,14 @@
 use crate::Reception;
 use outcomes::Refusal;
 
-#[derive(Drop)]
+#[derive(Clone, Copy)]
 pub enum EofAnswer {
     Ended,
     Refused(Refusal),
 }
 
 // What a caller has after a step: the answer, and the record afterwards.
-#[derive(Drop)]
+#[derive(Clone, Copy)]
 pub struct EofDone {
     pub answer: EofAnswer,
     pub rec: Reception,

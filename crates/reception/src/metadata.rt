@@ -2,14 +2,14 @@
 use crate::Reception;
 use outcomes::Refusal;
 
-#[derive(Drop)]
+#[derive(Clone, Copy)]
 pub enum MetadataAnswer {
     Known,
     Refused(Refusal),
 }
 
 // What a caller has after a step: the answer, and the record afterwards.
-#[derive(Drop)]
+#[derive(Clone, Copy)]
 pub struct MetadataDone {
     pub answer: MetadataAnswer,
     pub rec: Reception,
