@@ -1,7 +1,6 @@
 -- No two answers of a call have one outcome, so each call's statement allows one answer.
 use mathlib.Core.Path.{◌≡◌, refl, ap}
 use mathlib.Core.Bool.{cond}
-use Prim.Native.Nat.{ℕ}
 use lib.Dec.{eqb}
 use Rattle.outcomes.specs.Outcome.{Outcome}
 use Rattle.outcomes.specs.declared.Refusal.{Refusal}

@@ -1,19 +1,19 @@
 -- Laws of counting offsets: sets that part a number, sets that have nothing in common, and a coalesced list's offsets as the sum of its
 -- ranges' lengths.
 use mathlib.Core.Path.{◌≡◌, refl, sym, ap, ◌∙◌}
-use mathlib.Core.Bool.{Bool, true, false, ◌&&◌, ◌||◌, not, cond, true≢false}
+use mathlib.Core.Bool.{Bool, true, false, ◌||◌, cond, true≢false}
 use mathlib.Core.List.{List, [], ◌∷◌}
-use mathlib.Core.Logic.{◌⊎◌, inl, inr, ⊎_elim, ◌↔◌}
+use mathlib.Core.Logic.{inl, inr, ◌↔◌}
 use Prim.Native.Nat.{ℕ, zero, suc, ◌+◌, ◌-◌, ◌≤◌, ◌<◌, min}
 use native.Mathlib.Omega.{arith}
 use native.Mathlib.Decide.{dec_lt}
 use borrow.Author.Tests.{le-leb, lt-ltb, leb-true, leb-false, ltb-true, ltb-false}
 use lib.Dec.{leb, ltb}
-use Rattle.ranges.specs.Range.{Range, range, In, Covers, Above, Coalesced, some, last_end}
+use Rattle.ranges.specs.Range.{Range, range, In, Covers, Above, last_end}
 use Rattle.ranges.proofs.Test.{and_true, or_true}
 use Rattle.ranges.proofs.Covering.{above_covers}
 use Rattle.ranges.proofs.Last.{ends_le, last-tail}
-use Rattle.holding.specs.Count.{count_below, is_in, is_covered, octets_below, shared_below}
+use Rattle.holding.specs.Count.{count_below, is_in, is_covered, octets_below}
 
 -- the tests say what the sets say
 pub in_true : (x : ℕ) (r : Range) → (is_in x r ≡ true) ↔ In x r

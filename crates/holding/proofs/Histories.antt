@@ -5,13 +5,13 @@ use mathlib.Core.Path.{◌≡◌, refl, sym, ap, ◌∙◌}
 use mathlib.Core.Bool.{Bool, true, false, ◌&&◌, ◌||◌, not, cond, true≢false}
 use mathlib.Core.List.{List, [], ◌∷◌}
 use mathlib.Core.Logic.{◌⊎◌, inl, inr, ⊎_elim, ◌↔◌}
-use Prim.Native.Nat.{ℕ, zero, suc, ◌+◌, ◌*◌, ◌-◌, ◌≤◌, ◌<◌, max}
+use Prim.Native.Nat.{ℕ, ◌+◌, ◌*◌, ◌-◌, ◌≤◌, ◌<◌}
 use native.Mathlib.Omega.{arith}
 use native.Mathlib.Decide.{dec_lt}
 use lib.ListN.{length, get_or}
-use lib.Dec.{leb, ltb, eqb}
-use borrow.Author.Tests.{leb-true, leb-false, le-leb, lt-leb, ltb-false, le-ltb, ne_eqb}
-use Rattle.ranges.specs.Range.{Range, range, In, Covers, Coalesced, some, shares, Shares, last_end}
+use lib.Dec.{leb}
+use borrow.Author.Tests.{leb-true, leb-false, ltb-false, le-ltb, ne_eqb}
+use Rattle.ranges.specs.Range.{Range, range, In, Covers, Coalesced, some, shares}
 use Rattle.ranges.specs.Store.{most_pairs}
 use Rattle.ranges.specs.Without.{Outside}
 use Rattle.ranges.specs.declared.Width.{Width}
@@ -19,8 +19,8 @@ use Rattle.ranges.proofs.Test.{and_true}
 use Rattle.ranges.proofs.Some.{shares-set}
 use Rattle.outcomes.specs.Outcome.{Outcome, accepted}
 use Rattle.reception.specs.History.{Event, Data, State, fresh, is_accepted, step, run, metadata_came, kept, kept_from, accepted_of, largest_end, told_size, ranges_of}
-use Rattle.reception.specs.Record.{record_checks, Passed}
-use Rattle.reception.proofs.Records.{mark_metadata, progress-largest, size_of, told-size}
+use Rattle.reception.specs.Record.{Passed}
+use Rattle.reception.proofs.Records.{mark_metadata, progress-largest, told-size}
 use Rattle.reception.proofs.Sound.{behind_record}
 use Rattle.reception.proofs.Histories.{Holds, history, holds, always_sound, effect_kept}
 use Rattle.reception.proofs.Answered.{size-is-progress}
@@ -28,7 +28,7 @@ use Rattle.reception.proofs.data.Accepted.{taken}
 use Rattle.holding.specs.Count.{count_below, is_in, is_covered, octets_below, shared_below}
 use Rattle.holding.specs.Held.{span_checks, is_held, held_outcome}
 use Rattle.holding.specs.MissingOctets.{missing_octets, missing_octets_outcome}
-use Rattle.holding.proofs.Counting.{in_true, covered-set, count_most, count_same, count_add, count_all}
+use Rattle.holding.proofs.Counting.{in_true, covered-set, count_same, count_add, count_all}
 use Rattle.holding.proofs.Sizes.{sized_of, run_sized}
 
 -- two tests that say the same
@@ -200,11 +200,11 @@ module _ (w : Width) (xs : List ℕ) (N : ℕ) (size : length xs ≡ 2 * N) (few
         to : ranges_of reached ≡ [] → (x : ℕ) → x < z → Covers x (kept start es)
         to e x h = (covered-set (kept start es) x).0 (kept-or-missing x (omega (arith, progress-size)) ∙ ap (λ (rs : List Range). not (is_covered rs x)) e)
 
-    -- an accepted data event while the metadata is known
-    module _ (known : metadata_came start es ≡ true) (o n : ℕ) (taken-now : is_accepted reached (Data o n) ≡ true) where
-      abbrev after : State
-      after = step reached (Data o n)
+    abbrev after : ℕ → ℕ → State
+    after o n = step reached (Data o n)
 
+    -- an accepted data event while the metadata is not missing
+    module _ (o n : ℕ) (taken-now : is_accepted reached (Data o n) ≡ true) (marked : reached.rec.missing ≡ false) where
       inside : o + n ≤ z
       inside =
           let k = (taken reached.rec reached.list o n taken-now).checks.within in
@@ -212,33 +212,29 @@ module _ (w : Width) (xs : List ℕ) (N : ℕ) (size : length xs ≡ 2 * N) (few
           let u : o + n ≤ reached.rec.size = ltb-false _ _ (rw s.0 at k) in
           omega (arith, u, s.1)
 
-      progress-stays : after.rec.progress ≡ z
+      progress-stays : (after o n).rec.progress ≡ z
       progress-stays = rw taken-now (omega (arith, inside, progress-size))
 
-      marked : reached.rec.missing ≡ false
-      marked = mark_metadata w xs es ∙ ap not known
-
-      effect : (x : ℕ) → Covers x (ranges_of after) ↔ ((Covers x (ranges_of reached) × Outside o (o + n) x) ⊎ In x (range reached.rec.progress o))
+      effect : (x : ℕ) → Covers x (ranges_of (after o n)) ↔ ((Covers x (ranges_of reached) × Outside o (o + n) x) ⊎ In x (range reached.rec.progress o))
       effect x = effect_kept w xs N size few es o n taken-now marked x
 
-      -- it lowers the missing octets by exactly what it has in common with the list
-      pub lowered : missing_octets reached.rec reached.list ≡ missing_octets after.rec after.list + shared_below z (range o (o + n)) (ranges_of reached)
-      lowered =
+      lowering : missing_octets reached.rec reached.list ≡ missing_octets (after o n).rec (after o n).list + shared_below z (range o (o + n)) (ranges_of reached)
+      lowering =
           ap (λ (p : ℕ). octets_below p (ranges_of reached)) progress-size
-          ∙ count_add (is_covered (ranges_of reached)) (is_covered (ranges_of after)) shared z either one
-          ∙ ap (λ (p : ℕ). octets_below p (ranges_of after) + shared_below z (range o (o + n)) (ranges_of reached)) (sym progress-stays)
+          ∙ count_add (is_covered (ranges_of reached)) (is_covered (ranges_of (after o n))) shared z either one
+          ∙ ap (λ (p : ℕ). octets_below p (ranges_of (after o n)) + shared_below z (range o (o + n)) (ranges_of reached)) (sym progress-stays)
         where
           shared : ℕ → Bool
           shared x = is_covered (ranges_of reached) x && is_in x (range o (o + n))
 
-          either : (x : ℕ) → x < z → is_covered (ranges_of reached) x ≡ (is_covered (ranges_of after) x || shared x)
+          either : (x : ℕ) → x < z → is_covered (ranges_of reached) x ≡ (is_covered (ranges_of (after o n)) x || shared x)
           either x h =
-              go (is_covered (ranges_of reached) x) (is_covered (ranges_of after) x) (is_in x (range o (o + n))) refl refl refl
+              go (is_covered (ranges_of reached) x) (is_covered (ranges_of (after o n)) x) (is_in x (range o (o + n))) refl refl refl
             where
-              go : (b a i : Bool) → is_covered (ranges_of reached) x ≡ b → is_covered (ranges_of after) x ≡ a → is_in x (range o (o + n)) ≡ i → b ≡ (a || (b && i))
+              go : (b a i : Bool) → is_covered (ranges_of reached) x ≡ b → is_covered (ranges_of (after o n)) x ≡ a → is_in x (range o (o + n)) ≡ i → b ≡ (a || (b && i))
               go true true i e f g = refl
               go true false true e f g = refl
-              go true false false e f g = absurd (true≢false (sym ((covered-set (ranges_of after) x).1 ((effect x).1 (inl ((covered-set (ranges_of reached) x).0 e, out g)))) ∙ f))
+              go true false false e f g = absurd (true≢false (sym ((covered-set (ranges_of (after o n)) x).1 ((effect x).1 (inl ((covered-set (ranges_of reached) x).0 e, out g)))) ∙ f))
                 where
                   out : is_in x (range o (o + n)) ≡ false → Outside o (o + n) x
                   out g = side (dec_lt x o) (dec_lt x (o + n))
@@ -251,10 +247,10 @@ module _ (w : Width) (xs : List ℕ) (N : ℕ) (size : length xs ≡ 2 * N) (few
                   absurd (⊎_elim
                   (λ (c : Covers x (ranges_of reached) × Outside o (o + n) x). true≢false (sym ((covered-set (ranges_of reached) x).1 c.0) ∙ e))
                   (λ (c : In x (range reached.rec.progress o)). omega (arith, c.0, c.1, inside, progress-size))
-                  ((effect x).0 ((covered-set (ranges_of after) x).0 f)))
+                  ((effect x).0 ((covered-set (ranges_of (after o n)) x).0 f)))
               go false false i e f g = refl
 
-          one : (x : ℕ) → x < z → is_covered (ranges_of after) x ≡ true → shared x ≡ false
+          one : (x : ℕ) → x < z → is_covered (ranges_of (after o n)) x ≡ true → shared x ≡ false
           one x h e = go (shared x) refl
             where
               go : (t : Bool) → shared x ≡ t → shared x ≡ false
@@ -264,12 +260,18 @@ module _ (w : Width) (xs : List ℕ) (N : ℕ) (size : length xs ≡ 2 * N) (few
                   absurd (⊎_elim
                   (λ (c : Covers x (ranges_of reached) × Outside o (o + n) x). ⊎_elim (λ (u : x < o). omega (arith, i.0)) (λ (u : o + n ≤ x). omega (arith, i.1)) c.1)
                   (λ (c : In x (range reached.rec.progress o)). omega (arith, c.0, c.1, inside, progress-size))
-                  ((effect x).0 ((covered-set (ranges_of after) x).0 e)))
+                  ((effect x).0 ((covered-set (ranges_of (after o n)) x).0 e)))
               go false f = f
 
+    -- an accepted data event while the metadata is known
+    module _ (known : metadata_came start es ≡ true) (o n : ℕ) (taken-now : is_accepted reached (Data o n) ≡ true) where
+      -- it lowers the missing octets by exactly what it has in common with the list
+      pub lowered : missing_octets reached.rec reached.list ≡ missing_octets (after o n).rec (after o n).list + shared_below z (range o (o + n)) (ranges_of reached)
+      lowered = lowering o n taken-now (mark_metadata w xs es ∙ ap not known)
+
       -- so no accepted data event raises them
-      pub never-raised : missing_octets after.rec after.list ≤ missing_octets reached.rec reached.list
-      never-raised = omega (arith, lowered)
+      pub never-raised : missing_octets (after o n).rec (after o n).list ≤ missing_octets reached.rec reached.list
+      never-raised = let e = lowering o n taken-now (mark_metadata w xs es ∙ ap not known) in omega (arith, e)
 
   -- later events that keep every offset of the list leave an empty list, once the metadata came and the size was told
   pub filled : metadata_came start es ≡ true → (z : ℕ) → told_size start es ≡ z ∷ [] → (ds : List Event)

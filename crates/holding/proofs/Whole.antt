@@ -1,25 +1,25 @@
 -- Ranges of the list that come whole, in any order and repeated, are never refused: each leaves the list or is gone already, so there is
 -- always room. For a record with metadata and size known.
 use mathlib.Core.Path.{◌≡◌, refl, sym, ap, ◌∙◌}
-use mathlib.Core.Bool.{Bool, true, false, not, cond}
+use mathlib.Core.Bool.{true, false, not}
 use mathlib.Core.List.Memᴰ
-use mathlib.Core.List.{List, [], ◌∷◌, ◌++◌, Memᴰ}
-use mathlib.Core.Logic.{◌⊎◌, inl, inr, ⊎_elim}
+use mathlib.Core.List.{List, [], ◌∷◌, Memᴰ}
+use mathlib.Core.Logic.{◌⊎◌, inl, inr}
 use Prim.Native.Nat.{ℕ, suc, ◌+◌, ◌*◌, ◌≤◌, ◌<◌, min, max}
 use native.Mathlib.Omega.{arith}
-use lib.ListN.{length, length-append}
+use lib.ListN.{length}
 use lib.Dec.{eqb}
 use borrow.Author.Tests.{le-ltb}
-use Rattle.ranges.specs.Range.{Range, range, Covers, Above, Coalesced, last_end}
+use Rattle.ranges.specs.Range.{Range, range, Above, Coalesced, last_end}
 use Rattle.ranges.specs.Store.{capacity, limit_of, most_pairs}
 use Rattle.ranges.specs.declared.Width.{Width}
 use Rattle.ranges.specs.declared.Width.TheVariants.{Wide, Narrow}
-use Rattle.ranges.specs.Without.{part, pieces, without}
+use Rattle.ranges.specs.Without.{pieces, without}
 use Rattle.ranges.proofs.Flat.{length-counted}
 use Rattle.ranges.proofs.Last.{ends_le, last-tail}
 use Rattle.ranges.proofs.Stored.{counted-stored}
 use Rattle.ranges.proofs.Without.{part_none, part-one}
-use Rattle.outcomes.specs.Outcome.{Outcome, accepted}
+use Rattle.outcomes.specs.Outcome.{Outcome}
 use Rattle.reception.specs.Data.{largest_number, is_too_long, is_past_size, is_full, data_leaves}
 use Rattle.reception.specs.History.{Event, Data, Metadata, Eof, State, fresh, is_accepted, step, run, metadata_came, told_size, ranges_of}
 use Rattle.reception.proofs.Records.{step_mark, mark_metadata, size_of, told-size}
@@ -28,7 +28,7 @@ use Rattle.reception.proofs.Standing.{standing-passed}
 use Rattle.reception.proofs.Histories.{Holds, history, holds}
 use Rattle.reception.proofs.Answered.{size-is-progress}
 use Rattle.reception.proofs.data.Answers.{data-taken}
-use Rattle.holding.specs.Whole.{WholeOne, AllWhole, NoneRefused}
+use Rattle.holding.specs.Whole.{AllWhole, NoneRefused}
 use Rattle.holding.proofs.Sizes.{sized_of, run_sized}
 
 -- a range that is (a, b) or has nothing in common with it

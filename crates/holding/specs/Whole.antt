@@ -1,5 +1,5 @@
 -- Ranges of a list that come whole.
-use Rattle.std.specs.Prelude.{ℕ, ◌+◌, ◌≡◌, true}
+use Rattle.std.specs.Prelude.{◌+◌, ◌≡◌, true}
 use mathlib.Core.List.{List, [], ◌∷◌, Memᴰ}
 use Rattle.ranges.specs.Range.{Range, range}
 use Rattle.reception.specs.History.{Event, Data, Metadata, Eof, State, is_accepted, step}

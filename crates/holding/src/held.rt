@@ -1,7 +1,7 @@
 // What held answers.
 use outcomes::Refusal;
 
-#[derive(Drop)]
+#[derive(Clone, Copy)]
 pub enum HeldAnswer {
     Yes,
     No,

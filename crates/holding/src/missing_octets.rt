@@ -1,7 +1,7 @@
 // What missing_octets answers.
 use outcomes::Refusal;
 
-#[derive(Drop)]
+#[derive(Clone, Copy)]
 pub enum MissingOctetsAnswer {
     Missing(u64),
     Refused(Refusal),
