@@ -1,4 +1,6 @@
 // The reception events on a record by value.
+#![tactic(auto)]
+
 pub mod data;
 pub mod eof;
 pub mod metadata;
