@@ -1,15 +1,15 @@
 -- On a coalesced list, (a, b) shares an offset with a range exactly if it does with the first that ends above a: if that starts below b.
-use mathlib.Core.Path.{◌≡◌, refl, sym, ◌∙◌}
+use mathlib.Core.Path.{◌≡◌, refl}
 use mathlib.Core.Bool.{Bool, true, false, ◌&&◌, ◌||◌, not}
 use mathlib.Core.List.{List, [], ◌∷◌}
-use Prim.Native.Nat.{ℕ, zero, suc, ◌≤◌, ◌<◌}
+use Prim.Native.Nat.{ℕ, suc, ◌≤◌, ◌<◌}
 use native.Mathlib.Omega.{arith}
 use lib.ListN.{length, get_or}
 use lib.Dec.{leb, ltb}
 use borrow.Author.Tests.{le-leb, lt-leb, le-ltb, ltb-true, ltb-false}
 use Rattle.ranges.specs.Range.{Range, range, Above, Coalesced, some, shares}
-use Rattle.ranges.specs.Inner.Cut.{past, first}
-use Rattle.ranges.proofs.Test.{and_none, or-none}
+use Rattle.ranges.specs.Inner.Cut.{first}
+use Rattle.ranges.proofs.Test.{and_none}
 
 -- b is at most s exactly if s is not below b
 pub at-or-above : (b s : ℕ) → leb b s ≡ not (ltb s b)
