@@ -2,10 +2,10 @@
 use mathlib.Core.Path.{◌≡◌, refl, sym, ◌∙◌}
 use mathlib.Core.Bool.{Bool, true, false, ◌&&◌, not, cond, true≢false}
 use mathlib.Core.List.{List, [], ◌∷◌}
-use mathlib.Core.Logic.{◌⊎◌, inl, inr, ⊎_elim, ◌↔◌}
+use mathlib.Core.Logic.{inl, inr, ⊎_elim, ◌↔◌}
 use Prim.Native.Nat.{ℕ, ◌≤◌, ◌<◌}
 use native.Mathlib.Omega.{arith}
-use lib.Dec.{eqb, ltb}
+use lib.Dec.{eqb}
 use borrow.Author.Tests.{eq-eqb, ne_eqb, eqb-true, le-ltb, ltb-false}
 use Rattle.ranges.specs.Range.{Range}
 use Rattle.ranges.proofs.Test.{and_true}
@@ -22,7 +22,7 @@ left none = cond none 1 0
 
 to : (none : Bool) (rs : List Range) → NoneOf (checks_from none rs) → EachAsks rs × (metadata_asked rs ≤ left none)
 to none [] n = (tt, omega arith)
-to none (r ∷ rs) n = go none (is_metadata r) refl (ltb-false _ _ n.0) n.1.0 (to _ rs n.1.1)
+to none (r ∷ rs) n = go none (is_metadata r) refl (ltb-false _ _ n.0) n.1.0 (to (none && not (is_metadata r)) rs n.1.1)
   where
     apart : r.start ≤ r.end → (eqb r.start r.end && true) ≡ false → r.start < r.end
     apart l k = let n : r.start ≡ r.end → ⊥ = λ q. true≢false (sym (rw (eq-eqb r.start r.end q)) ∙ k) in omega arith
@@ -39,7 +39,7 @@ to none (r ∷ rs) n = go none (is_metadata r) refl (ltb-false _ _ n.0) n.1.0 (t
 
 from : (none : Bool) (rs : List Range) → EachAsks rs → metadata_asked rs ≤ left none → NoneOf (checks_from none rs)
 from none [] a h = tt
-from none (r ∷ rs) a h = go none (is_metadata r) refl h (λ c. from _ rs a.1 c)
+from none (r ∷ rs) a h = go none (is_metadata r) refl h (λ c. from (none && not (is_metadata r)) rs a.1 c)
   where
     ordered : r.start ≤ r.end
     ordered = ⊎_elim (λ l. omega arith) (λ e. let z = both_zero r e in omega (arith, z.0, z.1)) a.0

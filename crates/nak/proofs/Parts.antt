@@ -9,7 +9,7 @@ use lib.ListN.{length, take, drop, length-append, length-drop}
 use lib.Seq.{length-take-le}
 use Rattle.ranges.proofs.Flat.{flat_append, length-flat}
 use Rattle.ranges.specs.Range.{Range}
-use Rattle.ranges.specs.Store.{pairs, flat}
+use Rattle.ranges.specs.Store.{flat}
 use Rattle.octets.specs.Octets.{field, fields}
 use Rattle.octets.specs.Flag.{field_length}
 use Rattle.octets.specs.declared.LargeFileFlag.{LargeFileFlag}

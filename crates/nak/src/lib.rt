@@ -1,5 +1,7 @@
 // The NAK PDU (CCSDS 727.0-B-5, PDU header and 5.2.6): what it is made of. The calls are in the crates nak_writer, nak_parser and
 // nak_reader.
+#![tactic(auto)]
+
 ghost use Rattle.std.specs.Prelude.{◌≡◌};
 ghost use Rattle.octets.specs.Flag.{field_length, largest_of};
 ghost use Rattle.nak.specs.Header.{is_reserved_set};
@@ -17,14 +19,14 @@ pub const NAK_CODE: u8 = 8;
 
 // The issue of 727.0-B that a link speaks. The older one has other version bits, and a reserved bit where the newer one has the large
 // file flag.
-#[derive(Drop)]
+#[derive(Clone, Copy)]
 pub enum Edition {
     Older,
     Newer,
 }
 
 // What fixes the shape of a PDU: the link's edition, whether its numbers have four octets or eight, and whether it ends in a CRC.
-#[derive(Drop)]
+#[derive(Clone, Copy)]
 pub struct Form {
     pub edition: Edition,
     pub flag: LargeFileFlag,
@@ -73,7 +75,7 @@ impl Form {
 
 // Source entity and destination entity, identifiers of `entity_length` octets, and the transaction's sequence number, of
 // `number_length` octets.
-#[derive(Drop)]
+#[derive(Clone, Copy)]
 pub struct Identity {
     pub entity_length: usize,
     pub number_length: usize,

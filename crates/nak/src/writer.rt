@@ -1,7 +1,7 @@
 // What writing one PDU answers.
 use outcomes::Refusal;
 
-#[derive(Drop)]
+#[derive(Clone, Copy)]
 pub enum WriteAnswer {
     // The PDU's length.
     Written(usize),
