@@ -1,4 +1,6 @@
 // Writing one PDU.
+#![tactic(auto)]
+
 ghost use Rattle.std.specs.Prelude.{◌≡◌, [], length};
 ghost use Rattle.ranges.specs.Store.{pairs};
 ghost use Rattle.outcomes.specs.Outcome.{accepted};
