@@ -1,12 +1,11 @@
 -- A packet of one edition is never accepted under the other: what one accepts, the other refuses with 15.
-use mathlib.Core.Path.{◌≡◌, refl, ap}
+use mathlib.Core.Path.{◌≡◌, refl}
 use mathlib.Core.Bool.{false}
 use mathlib.Core.List.{List}
 use Prim.Native.Nat.{ℕ}
 use native.Mathlib.Omega.{arith}
 use lib.Dec.{eqb}
 use borrow.Author.Tests.{le-ltb, ne_eqb}
-use Rattle.outcomes.specs.Outcome.{accepted}
 use Rattle.outcomes.specs.Refusal.{refusing}
 use Rattle.outcomes.specs.declared.Refusal.TheVariants as refusal
 use Rattle.nak.specs.declared.Edition.{Edition}

@@ -13,7 +13,7 @@ use Rattle.ranges.proofs.Flat.{length-flat}
 use Rattle.ranges.specs.Range.{Range}
 use Rattle.ranges.specs.Store.{flat, any_above}
 use Rattle.outcomes.specs.Outcome.{accepted}
-use Rattle.octets.specs.Octets.{field, fields, number}
+use Rattle.octets.specs.Octets.{field, fields}
 use Rattle.octets.specs.Flag.{field_length, largest_of}
 use Rattle.octets.specs.declared.LargeFileFlag.{LargeFileFlag}
 use Rattle.octets.specs.declared.LargeFileFlag.TheVariants.{Normal, Large}

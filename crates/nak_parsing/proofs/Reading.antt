@@ -4,7 +4,7 @@ use mathlib.Core.Bool.{Bool, true, false, cond}
 use mathlib.Core.List.{List, [], ◌∷◌, ◌++◌}
 use Prim.Native.Nat.{ℕ, ◌+◌, ◌*◌, ◌-◌, ◌/◌, ◌%◌, ◌≤◌, ◌<◌}
 use native.Mathlib.Omega.{arith}
-use lib.Dec.{eqb, ltb}
+use lib.Dec.{ltb}
 use lib.ListN.{length, take, drop, length-drop}
 use lib.Seq.{length-take-le}
 use borrow.Author.Tests.{eqb-true, ltb-false, le-ltb, eq-eqb, ne_eqb, not-false}
@@ -15,7 +15,7 @@ use Rattle.outcomes.specs.Refusal.{refusing}
 use Rattle.outcomes.specs.Checks.{Check, first_of, NoneOf}
 use Rattle.outcomes.specs.declared.Refusal.TheVariants as refusal
 use Rattle.outcomes.proofs.FirstOf.{first-append, first-none, first-accepted}
-use Rattle.octets.specs.Octets.{number, AllOctets}
+use Rattle.octets.specs.Octets.{AllOctets}
 use Rattle.nak.proofs.Room as room
 use Rattle.octets.proofs.Fields.{number-below, octets-take, octets-drop}
 use Rattle.nak.specs.declared.Identity.{Identity}

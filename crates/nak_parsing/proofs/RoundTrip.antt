@@ -111,7 +111,7 @@ module _ (v : Edition) (p : List ℕ) (a : AllOctets p) (r : Read v p) where
       }
 
   numbers-in : any_above (largest_of (packet_flag p)) (numbers_of (nak_in v p)) ≡ false
-  unfolding scope_in scope_at packet_requests
+  unfolding scope_in scope_at packet_requests field_length_in packet_flag
   numbers-in =
       let t = r.shape in
       let g = packet_flag p in

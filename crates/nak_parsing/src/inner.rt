@@ -2,7 +2,7 @@
 use nak::Form;
 
 // What the header's first four octets say: the form, I and Q, and so H; the length field.
-#[derive(Drop)]
+#[derive(Clone, Copy)]
 pub struct Header {
     pub form: Form,
     pub entity_length: usize,

@@ -1,11 +1,13 @@
 // Reading one NAK PDU: what it hands back, and what a step of a reader finds. The calls are in the crate nak_parser.
+#![tactic(auto)]
+
 use nak::{Form, Identity};
 
 pub mod inner;
 
 // What reading hands back: the refusal's number, 0 where the packet is accepted, and the start and end that it carries; what the
 // packet says; where its requests stand, and where a reader of them starts.
-#[derive(Drop)]
+#[derive(Clone, Copy)]
 pub struct Parsed {
     pub refusal: u64,
     pub start: u64,
@@ -20,14 +22,14 @@ pub struct Parsed {
 }
 
 // What a step of a reader finds.
-#[derive(Drop)]
+#[derive(Clone, Copy)]
 pub enum Step {
     Request(u64, u64),
     End,
 }
 
 // And the place after it.
-#[derive(Drop)]
+#[derive(Clone, Copy)]
 pub struct Found {
     pub step: Step,
     pub at: usize,
