@@ -1,4 +1,6 @@
 // Reading one NAK PDU into plain values.
+#![tactic(auto)]
+
 ghost use Rattle.std.specs.Prelude.{◌≡◌};
 ghost use Rattle.nak_parsing.specs.Parser.{parsed_of, requests_part, requests_ptr};
 ghost use Rattle.nak_parsing.specs.Step.{step_case, step_outcome, place_after};
