@@ -1,4 +1,6 @@
 // A reader over the caller's octets. The struct is taken apart in few, thin functions; the work is in `nak_parser`.
+#![tactic(auto)]
+
 ghost use Rattle.std.specs.Prelude.{◌≡◌};
 ghost use Rattle.nak_parsing.specs.Parser.{parsed_of, requests_part, requests_ptr};
 ghost use Rattle.nak_parsing.specs.Step.{step_case, step_outcome, place_after};
@@ -8,7 +10,7 @@ use nak::Edition;
 use nak_parsing::{Found, Parsed, Step};
 
 // The caller's packet, and the place of the next request.
-#[derive(Drop)]
+#[derive(Clone, Copy)]
 pub struct NakReader<'a> {
     pub packet: &'a [u8],
     pub at: usize,
@@ -16,7 +18,7 @@ pub struct NakReader<'a> {
 
 // What reading hands back: the refusal's number, 0 where the packet is accepted, and what the packet says (`parsed`); a reader of
 // the requests; the requests as the caller's own octets.
-#[derive(Drop)]
+#[derive(Clone, Copy)]
 pub struct ReadNak<'a> {
     pub parsed: Parsed,
     pub reader: NakReader<'a>,
@@ -24,7 +26,7 @@ pub struct ReadNak<'a> {
 }
 
 // What a step hands back: one request or the end, and the reader after it.
-#[derive(Drop)]
+#[derive(Clone, Copy)]
 pub struct Taken<'a> {
     pub step: Step,
     pub reader: NakReader<'a>,
