@@ -1,7 +1,6 @@
 -- PDUs back to back are parted by their own length fields into the PDUs that were written. The reader accepts each, and gives back the
 -- identity, the form and the requests that it was written with.
 use mathlib.Core.Path.{◌≡◌, refl, sym, ap, ap₂, ◌∙◌}
-use mathlib.Core.Bool.{false}
 use mathlib.Core.List.{List, [], ◌∷◌, ◌++◌}
 use Prim.Native.Nat.{ℕ, zero, suc, ◌+◌, ◌*◌, ◌-◌, ◌≤◌, ◌<◌}
 use native.Mathlib.Nat.{zero-mul, one-mul, suc-mul}

@@ -1,10 +1,9 @@
 -- PDUs back to back, parted by their own length fields, and what the reader reads in them.
-use Rattle.std.specs.Prelude.{ℕ, zero, suc, ◌+◌, ◌≤◌, ◌≡◌, cond, List, [], ◌∷◌, ◌++◌, length, take, drop}
+use Rattle.std.specs.Prelude.{ℕ, zero, suc, ◌+◌, ◌≤◌, ◌≡◌, List, [], ◌∷◌, ◌++◌, length, take, drop}
 use Rattle.ranges.specs.Range.{Range}
 use Rattle.nak.specs.declared.Edition.{Edition}
 use Rattle.nak.specs.declared.Form.{Form}
 use Rattle.nak.specs.declared.Identity.{Identity}
-use Rattle.nak.specs.Request.{is_metadata}
 use Rattle.nak_parsing.specs.Parser.{header_length_in, length_field, parsed_of}
 use Rattle.nak_parsing.specs.Step.{requests_given}
 

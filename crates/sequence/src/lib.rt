@@ -1,7 +1,9 @@
 // The NAK sequence: what a call answers. The call is in the crate nak_sequence.
+#![tactic(auto)]
+
 use outcomes::Refusal;
 
-#[derive(Drop)]
+#[derive(Clone, Copy)]
 pub enum SequenceAnswer {
     // PDUs, octets written, new cursor.
     Sent(usize, usize, usize),
