@@ -15,7 +15,7 @@ use Rattle.reception.proofs.Histories.{missing_exact}
 use Rattle.holding.specs.Whole.{AllWhole, NoneRefused}
 use Rattle.holding.proofs.Histories.{filled}
 use Rattle.holding.proofs.Whole.{whole-taken}
-use Rattle.sequence.specs.Entries.{Asking, rounded_up}
+use Rattle.sequence.specs.Entries.{rounded_up}
 use Rattle.sequence.specs.Sequence.{Order, Allowed, asked}
 use Rattle.sequence.specs.Calls.{Call, AllFit, octets_by, budgets}
 use Rattle.sequence.specs.Parted.{parted, requests_read}
@@ -64,19 +64,3 @@ module _
     closes-covered ds f a =
         filled w xs N size few es known z told ds
         (λ x c. all-kept ds reached x a (f x ((names-missing w xs N size few es o ok cs fit enough x).1 ((missing_exact w xs N size few es x).0 c))))
-
-    -- the data for every request arrives
-    pub closes : (ds : List Event) → Arrives (requests_read o.form.edition (parted octets)) ds → NoneRefused reached ds → ranges_of (run reached ds) ≡ []
-    closes ds h a = closes-covered ds h.covered a
-
-    -- the metadata is known, so the requests read are the list's ranges
-    requests-are : requests_read o.form.edition (parted octets) ≡ ranges_of reached
-    requests-are = requests w xs N size few es o ok cs fit enough ∙ rw (mark_metadata w xs es, known)
-
-    -- requests that come whole, in any order and repeated, are never refused; so where all of them come, the list is empty
-    pub closes-whole : (ds : List Event) → AllWhole (requests_read o.form.edition (parted octets)) ds
-        → ((x : ℕ) → Covers x (requests_read o.form.edition (parted octets)) → Covers x (data_of ds))
-        → NoneRefused reached ds × (ranges_of (run reached ds) ≡ [])
-    closes-whole ds a f =
-        let n = whole-taken w xs N size few es known z told ds (rw requests-are at a) in
-        (n, closes-covered ds f n)
