@@ -7,7 +7,7 @@ use native.Mathlib.Omega.{arith}
 use native.Mathlib.Decide.{dec_lt}
 use lib.Dec.{eqb}
 use borrow.Author.Tests.{eq-eqb, ne_eqb}
-use Rattle.ranges.specs.Range.{Range, range}
+use Rattle.ranges.specs.Range.{Range}
 use Rattle.ranges.proofs.Test.{or_false, or-none, and_none}
 use Rattle.holding.specs.Count.{count_below, is_in, is_covered, octets_below}
 use Rattle.holding.proofs.Counting.{in_true, count_same, count_none, none-counted, lengths, lengths-below}

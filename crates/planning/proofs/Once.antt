@@ -3,10 +3,10 @@ use mathlib.Core.Path.{◌≡◌, refl, sym, ap, ◌∙◌}
 use mathlib.Core.Bool.{Bool, true, false, ◌||◌, true≢false}
 use mathlib.Core.List.{List, [], ◌∷◌, ◌++◌, append_assoc, append-nil}
 use mathlib.Core.Logic.{◌⊎◌, inl, inr, ⊎_elim, ◌↔◌}
-use Prim.Native.Nat.{ℕ, zero, suc, ◌+◌, ◌<◌}
+use Prim.Native.Nat.{ℕ, zero, suc, ◌<◌}
 use native.Mathlib.Omega.{arith}
 use native.Mathlib.Decide.{dec_lt}
-use Rattle.ranges.specs.Range.{Range, range, In, Covers}
+use Rattle.ranges.specs.Range.{Range, In, Covers}
 use Rattle.ranges.proofs.Test.{or_false}
 use Rattle.ranges.proofs.Covering.{covers_append, append_covers, covers_at, at_covers}
 use Rattle.holding.specs.Count.{is_covered}

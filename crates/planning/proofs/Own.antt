@@ -29,7 +29,7 @@ use Rattle.sequence.specs.Parted.{parted, joined, requests_read}
 use Rattle.sequence.proofs.Parting.{pdus, joined-pdus, length-pdus, parted-naks, requests-read, requests-naks}
 use Rattle.sequence.proofs.Sizes.{each-low}
 use Rattle.sequence.proofs.Together.{up-enough, ran}
-use Rattle.sequence.proofs.Readable.{pdu_readable, scope-end}
+use Rattle.sequence.proofs.Readable.{pdu_readable}
 use Rattle.sequence.proofs.Named.{entry-once, metadata-entries, entries_cover}
 use Rattle.planning.specs.Plan.{Plan, plan, start_of, packet_in, packet, requests_of, asked_before, lengths_of}
 use Rattle.planning.specs.Plan as proposed

@@ -1,5 +1,5 @@
 -- The six tests of a plan (document 02, C-23), each of one PDU, and which PDU each of them blames.
-use Rattle.std.specs.Prelude.{ℕ, zero, suc, ◌+◌, ◌-◌, Bool, true, false, ◌&&◌, ◌||◌, not, cond, List, [], ◌∷◌, ◌++◌, eqb, ltb}
+use Rattle.std.specs.Prelude.{ℕ, zero, suc, ◌+◌, ◌-◌, Bool, false, ◌&&◌, ◌||◌, not, cond, List, [], ◌∷◌, ◌++◌, eqb, ltb}
 use Rattle.ranges.specs.Range.{Range, some, inside}
 use Rattle.ranges.specs.Store.{counted}
 use Rattle.outcomes.specs.Checks.{Check}
