@@ -1,0 +1,68 @@
+-- `adds_up` meets its contract. The loop's invariant: the lengths ahead are what is left exactly if all are the octets.
+use native.Mathlib.Nat.{mul-zero, mul-suc, add-zero, sub-zero}
+use native.Mathlib.Numerals.{add-one}
+use native.Mathlib.Omega.{arith}
+use Prim.Native.Nat.{suc, ◌+◌, ◌*◌, ◌-◌}
+use mathlib.Core.Path.{◌≡◌, sym, ◌∙◌}
+use borrow.Author.Rules.{rules}
+use Rattle.octets.proofs.Turns.{room-all}
+use Rattle.nak_parsing.proofs.FirstRequest.{first_request}
+use Rattle.plan_packets.proofs.Turns.{sum_past, sum-rest, none_left}
+use Rattle.plan_packets.proofs.inner.requests.adds_up.Goals as goal
+
+pub loop-i-init : goal.loop-i-init
+loop-i-init c = (search rules, rw (mul-zero, add-zero), rw sub-zero)
+
+pub get-s-requires : goal.get-s-requires
+get-s-requires c =
+    let l = c.loop-i in
+    let a = c.args in
+    let k = room-all (2 * a.f) l.i a.count (omega arith) in
+    omega arith
+
+pub overflow_add-at : goal.overflow_add-at
+overflow_add-at c =
+    let l = c.loop-i in
+    let a = c.args in
+    let k = room-all (2 * a.f) l.i a.count (omega arith) in
+    omega arith
+
+pub get-e-requires : goal.get-e-requires
+get-e-requires c =
+    let l = c.loop-i in
+    let a = c.args in
+    let k = room-all (2 * a.f) l.i a.count (omega arith) in
+    omega arith
+
+pub returns-then-left-l : goal.returns-then-left-l
+returns-then-left-l c =
+    let l = c.loop-i in
+    let a = c.args in
+    let m : a.count - l.i ≡ suc (a.count - (l.i + 1)) = omega arith in
+    let t = first_request a.packet.now l.at a.f (a.count - (l.i + 1)) c.get-s.ensures c.get-e.ensures in
+    let v = rw m at l.invariant.2 in
+    sym (sum_past l.left t (omega (arith, c.length_of-l.ensures, c.if-left-l.true))) ∙ v
+
+pub overflow_add-at-in-loop-i : goal.overflow_add-at-in-loop-i
+overflow_add-at-in-loop-i c =
+    let l = c.loop-i in
+    let a = c.args in
+    let k = room-all (2 * a.f) l.i a.count (omega arith) in
+    omega arith
+
+pub loop-i-preserved : goal.loop-i-preserved
+loop-i-preserved c =
+    let l = c.loop-i in
+    let a = c.args in
+    let m : a.count - l.i ≡ suc (a.count - (l.i + 1)) = omega arith in
+    let t = first_request a.packet.now l.at a.f (a.count - (l.i + 1)) c.get-s.ensures c.get-e.ensures in
+    let v = rw m at l.invariant.2 in
+    let r = sum-rest l.left t (omega (arith, c.length_of-l.ensures, c.if-left-l.false)) in
+    (search rules, rw (add-one, mul-suc) (omega arith), rw c.length_of-l.ensures (sym r ∙ v))
+
+pub returns : goal.returns
+returns c =
+    let l = c.loop-i in
+    let a = c.args in
+    let z : a.count - l.i ≡ 0 = omega arith in
+    none_left l.left ∙ rw z at l.invariant.2

@@ -1,0 +1,70 @@
+-- `any_outside` meets its contract. The loop's invariant: some request ahead is outside exactly if some of all is.
+use native.Mathlib.Nat.{mul-zero, mul-suc, add-zero, sub-zero}
+use native.Mathlib.Numerals.{add-one}
+use native.Mathlib.Omega.{arith}
+use Prim.Native.Nat.{suc, ◌+◌, ◌*◌, ◌-◌}
+use mathlib.Core.Path.{◌≡◌, sym, ◌∙◌}
+use borrow.Author.Rules.{rules}
+use Rattle.ranges.specs.Range.{range}
+use Rattle.octets.proofs.Turns.{room-all}
+use Rattle.nak_parsing.proofs.FirstRequest.{first_request}
+use Rattle.planning.specs.Tests.{is_outside}
+use Rattle.plan_packets.proofs.Turns.{some_first, some-rest}
+use Rattle.plan_packets.proofs.inner.requests.any_outside.Goals as goal
+
+pub loop-i-init : goal.loop-i-init
+loop-i-init c = (search rules, rw (mul-zero, add-zero), rw sub-zero)
+
+pub get-s-requires : goal.get-s-requires
+get-s-requires c =
+    let l = c.loop-i in
+    let a = c.args in
+    let k = room-all (2 * a.f) l.i a.count (omega arith) in
+    omega arith
+
+pub overflow_add-at : goal.overflow_add-at
+overflow_add-at c =
+    let l = c.loop-i in
+    let a = c.args in
+    let k = room-all (2 * a.f) l.i a.count (omega arith) in
+    omega arith
+
+pub get-e-requires : goal.get-e-requires
+get-e-requires c =
+    let l = c.loop-i in
+    let a = c.args in
+    let k = room-all (2 * a.f) l.i a.count (omega arith) in
+    omega arith
+
+pub returns-then-is_outside : goal.returns-then-is_outside
+returns-then-is_outside c =
+    let l = c.loop-i in
+    let a = c.args in
+    let m : a.count - l.i ≡ suc (a.count - (l.i + 1)) = omega arith in
+    let t = first_request a.packet.now l.at a.f (a.count - (l.i + 1)) c.get-s.ensures c.get-e.ensures in
+    let v = rw m at l.invariant.2 in
+    sym (some_first (is_outside (range a.start a.end)) t (sym c.is_outside.ensures ∙ c.if-is_outside.true)) ∙ v
+
+pub overflow_add-at-in-loop-i : goal.overflow_add-at-in-loop-i
+overflow_add-at-in-loop-i c =
+    let l = c.loop-i in
+    let a = c.args in
+    let k = room-all (2 * a.f) l.i a.count (omega arith) in
+    omega arith
+
+pub loop-i-preserved : goal.loop-i-preserved
+loop-i-preserved c =
+    let l = c.loop-i in
+    let a = c.args in
+    let m : a.count - l.i ≡ suc (a.count - (l.i + 1)) = omega arith in
+    let t = first_request a.packet.now l.at a.f (a.count - (l.i + 1)) c.get-s.ensures c.get-e.ensures in
+    let v = rw m at l.invariant.2 in
+    let r = some-rest (is_outside (range a.start a.end)) t (sym c.is_outside.ensures ∙ c.if-is_outside.false) in
+    (search rules, rw (add-one, mul-suc) (omega arith), sym r ∙ v)
+
+pub returns : goal.returns
+returns c =
+    let l = c.loop-i in
+    let a = c.args in
+    let z : a.count - l.i ≡ 0 = omega arith in
+    rw z at l.invariant.2
