@@ -1,4 +1,6 @@
 // Mission planning's PDUs, back to back with a list of their lengths, checked against the record (document 02, C-23).
+#![tactic(auto)]
+
 ghost use Rattle.std.specs.Prelude.{◌≡◌, [], length, drop, ◌≤◌, ◌*◌};
 ghost use Rattle.outcomes.specs.Outcome.{accepted};
 ghost use Rattle.outcomes.specs.Checks.{verdict_case, first_of};
