@@ -1,4 +1,6 @@
 // The NAK sequence: PDUs that ask for everything that is missing, a few at a time from a cursor on.
+#![tactic(auto)]
+
 ghost use Rattle.std.specs.Prelude.{◌≡◌, [], length};
 ghost use Rattle.outcomes.specs.Outcome.{accepted};
 ghost use Rattle.outcomes.specs.Checks.{verdict_case, first_of};
