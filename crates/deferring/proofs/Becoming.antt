@@ -1,7 +1,7 @@
 -- From make on: once the timer becomes active, by an event or a reset, and no event is accepted and no reset made after that, tick number
 -- n answers as `answer_at d limit n` says; the report comes at tick d × (limit + 1).
-use mathlib.Core.Path.{◌≡◌, refl, sym, ap, ◌∙◌}
-use mathlib.Core.Bool.{Bool, true, false}
+use mathlib.Core.Path.{◌≡◌, sym, ap, ◌∙◌}
+use mathlib.Core.Bool.{true, false}
 use mathlib.Core.List.{List}
 use Prim.Native.Nat.{ℕ, suc, ◌+◌, ◌*◌}
 use lib.Dec.{eqb}

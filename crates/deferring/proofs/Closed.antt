@@ -3,7 +3,7 @@
 use mathlib.Core.Path.{◌≡◌, refl, sym, ap, ◌∙◌}
 use mathlib.Core.Bool.{Bool, true, false, not, cond, true≢false}
 use mathlib.Core.List.{List, [], ◌∷◌}
-use Prim.Native.Nat.{ℕ, suc, ◌-◌, ◌*◌, ◌≤◌, ◌<◌}
+use Prim.Native.Nat.{ℕ, suc, ◌*◌, ◌≤◌, ◌<◌}
 use native.Mathlib.Omega.{arith}
 use lib.ListN.{length}
 use lib.Dec.{eqb}
@@ -22,7 +22,8 @@ use Rattle.sequence.specs.Sequence.{Order, Allowed, asked}
 use Rattle.sequence.specs.Calls.{Call, AllFit, octets_by, budgets}
 use Rattle.sequence.specs.Parted.{parted, requests_read}
 use Rattle.closing.specs.Arrival.{data_of}
-use Rattle.closing.proofs.Closing.{closes-covered, closes-whole}
+use Rattle.closing.proofs.Closing.{closes-covered}
+use Rattle.closing.proofs.Closes.{closes-whole}
 use Rattle.deferring.specs.declared.Activity.{Activity}
 use Rattle.deferring.specs.declared.Activity.TheVariants as activity
 use Rattle.deferring.specs.declared.Deferred.{Deferred}

@@ -3,13 +3,13 @@ use crate::Deferred;
 use reception::Reception;
 use reception::data::DataAnswer;
 
-#[derive(Drop)]
+#[derive(Clone, Copy)]
 pub struct DataHeard {
     pub answer: DataAnswer,
     pub timer: Deferred,
 }
 
-#[derive(Drop)]
+#[derive(Clone, Copy)]
 pub struct DataHeardDone {
     pub heard: DataHeard,
     pub rec: Reception,

@@ -3,13 +3,13 @@ use crate::Deferred;
 use reception::Reception;
 use reception::eof::EofAnswer;
 
-#[derive(Drop)]
+#[derive(Clone, Copy)]
 pub struct EofHeard {
     pub answer: EofAnswer,
     pub timer: Deferred,
 }
 
-#[derive(Drop)]
+#[derive(Clone, Copy)]
 pub struct EofHeardDone {
     pub heard: EofHeard,
     pub rec: Reception,

@@ -1,4 +1,6 @@
 // The deferred NAK procedure (C-22): its timer, and what its calls answer. The calls are in the crate deferred.
+#![tactic(auto)]
+
 pub mod data;
 pub mod eof;
 pub mod make;
@@ -6,7 +8,7 @@ pub mod metadata;
 pub mod reset;
 pub mod tick;
 
-#[derive(Drop)]
+#[derive(Clone, Copy)]
 pub enum Activity {
     Idle,
     Active,
@@ -14,7 +16,7 @@ pub enum Activity {
 }
 
 // The timer of one reception, which the host keeps beside the record. It moves by value.
-#[derive(Drop)]
+#[derive(Clone, Copy)]
 pub struct Deferred {
     // The ticks of a countdown, and the asks after which the next expiry is the last.
     pub period: u64,

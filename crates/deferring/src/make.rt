@@ -2,7 +2,7 @@
 use crate::Deferred;
 use outcomes::Refusal;
 
-#[derive(Drop)]
+#[derive(Clone, Copy)]
 pub enum MakeAnswer {
     Made(Deferred),
     Refused(Refusal),

@@ -3,13 +3,13 @@ use crate::Deferred;
 use reception::Reception;
 use reception::metadata::MetadataAnswer;
 
-#[derive(Drop)]
+#[derive(Clone, Copy)]
 pub struct MetadataHeard {
     pub answer: MetadataAnswer,
     pub timer: Deferred,
 }
 
-#[derive(Drop)]
+#[derive(Clone, Copy)]
 pub struct MetadataHeardDone {
     pub heard: MetadataHeard,
     pub rec: Reception,

@@ -1,7 +1,7 @@
 // What a tick answers.
 use crate::Deferred;
 
-#[derive(Drop)]
+#[derive(Clone, Copy)]
 pub enum TickAnswer {
     // Nothing is to be done.
     Quiet,
@@ -12,7 +12,7 @@ pub enum TickAnswer {
 }
 
 // What a caller has after a tick: the answer, and the timer afterwards.
-#[derive(Drop)]
+#[derive(Clone, Copy)]
 pub struct TickDone {
     pub answer: TickAnswer,
     pub timer: Deferred,
