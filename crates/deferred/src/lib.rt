@@ -1,4 +1,6 @@
 // The deferred NAK procedure (C-22): the calls on a timer and on a record by value. Inputs are events, ticks and resets; no clock is read.
+#![tactic(auto)]
+
 pub mod data;
 pub mod eof;
 pub mod inner;
