@@ -1,12 +1,10 @@
 -- With no 10 and no 23, the answers to one transfer depend on the others only through the sum of the larger of held and floor: two pools that
 -- agree on the transfer, on the number of slots and on that sum answer it alike, and leave it the same record and the same ranges.
-use mathlib.Core.Path.{◌≡◌, refl, sym, ap, ap₂, ◌∙◌}
+use mathlib.Core.Path.{◌≡◌, sym, ap, ap₂, ◌∙◌}
 use mathlib.Core.Bool.{Bool}
 use mathlib.Core.List.{List, ◌++◌}
-use Prim.Native.Nat.{ℕ, ◌+◌, ◌*◌}
-use lib.ListN.{length}
-use Rattle.ranges.specs.Range.{Range}
-use Rattle.ranges.specs.Store.{flat, pairs, capacity}
+use Prim.Native.Nat.{ℕ}
+use Rattle.ranges.specs.Store.{flat, capacity}
 use Rattle.ranges.proofs.Flat.{flat-counted}
 use Rattle.outcomes.specs.Checks.{NoneOf}
 use Rattle.reception.specs.declared.Reception.{Reception}

@@ -1,18 +1,16 @@
 -- A pool of one transfer with floor 0 and limit S answers as a reception of its own with room for S, after any events: the same answers, the
 -- same record, the same ranges.
 use mathlib.Core.Path.{◌≡◌, refl, sym, ap, ap₂, ◌∙◌}
-use mathlib.Core.Bool.{Bool, true, false, ◌&&◌, ◌||◌, not, cond, true≢false}
-use mathlib.Core.List.{List, [], ◌∷◌, ◌++◌}
-use mathlib.Core.Logic.{◌⊎◌, inl, inr, ⊎_elim}
-use Prim.Native.Nat.{ℕ, zero, suc, ◌+◌, ◌*◌, ◌≤◌, ◌<◌, max}
+use mathlib.Core.Bool.{Bool, true, false, ◌||◌, not, cond, true≢false}
+use mathlib.Core.List.{List, [], ◌∷◌}
+use mathlib.Core.Logic.{inl, inr}
+use Prim.Native.Nat.{ℕ, suc, ◌+◌, ◌*◌, ◌≤◌, ◌<◌, max}
 use native.Mathlib.Omega.{arith}
-use native.Mathlib.Decide.{dec_lt}
 use lib.Dec.{eqb, ltb}
 use lib.ListN.{length, get_or}
-use borrow.Author.Tests.{eq-eqb, ne_eqb, le-ltb, eqb-true, eqb-false}
-use Rattle.ranges.specs.Range.{Range, Covers}
-use Rattle.ranges.specs.Store.{capacity, counted, stored, most_pairs}
-use Rattle.ranges.specs.declared.Width.{Width}
+use borrow.Author.Tests.{le-ltb, eqb-false}
+use Rattle.ranges.specs.Range.{Range}
+use Rattle.ranges.specs.Store.{capacity, counted, most_pairs}
 use Rattle.ranges.proofs.Flat.{length-counted}
 use Rattle.ranges.proofs.Stored.{counted-stored}
 use Rattle.outcomes.specs.Outcome.{Outcome, accepted, lent}
@@ -20,23 +18,23 @@ use Rattle.outcomes.specs.Refusal.{refusing}
 use Rattle.outcomes.specs.Checks.{NoneOf, first_of}
 use Rattle.outcomes.specs.declared.Refusal.TheVariants as refusal
 use Rattle.reception.specs.declared.Reception.{Reception}
-use Rattle.reception.specs.Record.{fresh_record, record_checks, moved, known as cleared, ended}
-use Rattle.reception.specs.Data.{data_leaves, is_full, segment_checks, room_outcome, data_outcome, advanced}
+use Rattle.reception.specs.Record.{moved, known as cleared, ended}
+use Rattle.reception.specs.Data.{data_leaves, is_full, segment_checks, room_outcome, data_outcome}
 use Rattle.reception.specs.Metadata.{mark_checks, metadata_outcome}
 use Rattle.reception.specs.Eof.{eof_leaves, size_checks, tail_outcome, eof_outcome}
-use Rattle.reception.specs.History.{Event, Data, Metadata, Eof, State, fresh as alone, outcome, is_accepted, step, run, is_metadata_come, ranges_of}
+use Rattle.reception.specs.History.{Event, Data, Metadata, Eof, State, fresh as alone, outcome, step, run, is_metadata_come, ranges_of}
 use Rattle.reception.proofs.Records.{step_mark, refused-same as stays}
 use Rattle.reception.proofs.Sound.{behind_record}
 use Rattle.reception.proofs.Standing.{Standing, standing-passed}
-use Rattle.reception.proofs.Histories.{Holds, step-holds, with-kept, holds}
+use Rattle.reception.proofs.Histories.{Holds, step-holds, holds}
 use Rattle.pooling.specs.declared.Pool.{Pool}
 use Rattle.pooling.specs.Pool.{record_at, count_at, floor_at, limit_at, sum, claim_at, claimed, is_bad_settings, NoRoom, is_no_room}
 use Rattle.pooling.specs.Share.{pool_checks, own_ranges, own_list}
-use Rattle.pooling.proofs.Own.{no_room, settled, counted-list}
+use Rattle.pooling.proofs.Own.{no_room, counted-list}
 use Rattle.pooling.proofs.Ends.{own-outcome}
 use Rattle.pooling.proofs.Grows.{data_grows, eof_grows}
-use Rattle.pooling.specs.History.{PoolState, PoolEvent, Fresh, answered, is_taken, pool_step, pool_run, takes, of_first}
-use Rattle.pooling.proofs.Histories.{own, room_at, PoolHolds, slots-step, none-met, record_own, ranges_own, pool-step, start, start-holds}
+use Rattle.pooling.specs.History.{PoolState, PoolEvent, Fresh, answered, is_taken, pool_step, pool_run, of_first}
+use Rattle.pooling.proofs.Histories.{own, room_at, PoolHolds, slots-step, none-met, record_own, ranges_own, pool-step, start-holds}
 use Rattle.pooling.proofs.Missing.{own-accepts, used_step, floors-step, limits-step}
 use Rattle.pooling.proofs.Answered.{settings-passed}
 

@@ -1,19 +1,19 @@
 -- What an otherwise valid event of a transfer is answered after any list of events of the pool, by the room rule on the runs of the offsets
 -- that would be missing. Otherwise valid: none of 2, 9, 4 and 22, or of 4 and 22 for an EOF, is met by the transfer's record.
-use mathlib.Core.Path.{◌≡◌, refl, sym, ap, ◌∙◌}
+use mathlib.Core.Path.{◌≡◌, refl, ap, ◌∙◌}
 use mathlib.Core.Bool.{Bool, true, false, not, cond}
-use mathlib.Core.List.{List, [], ◌∷◌, ◌++◌}
-use mathlib.Core.Logic.{◌⊎◌, inl, inr, ⊎_elim, ◌↔◌}
+use mathlib.Core.List.{List, [], ◌∷◌}
+use mathlib.Core.Logic.{inl, inr, ⊎_elim, ◌↔◌}
 use Prim.Native.Nat.{ℕ, ◌+◌, ◌*◌, ◌≤◌, ◌<◌, max}
 use native.Mathlib.Omega.{arith}
 use lib.ListN.{length}
-use borrow.Author.Tests.{le-ltb, eqb-false}
+use borrow.Author.Tests.{le-ltb}
 use Rattle.ranges.specs.Range.{Range, Covers, Coalesced}
 use Rattle.ranges.specs.Run.{RunsOf}
 use Rattle.ranges.specs.Store.{capacity, most_pairs, counted}
 use Rattle.ranges.proofs.Runs.{runs_of, one-runs}
 use Rattle.ranges.proofs.Without.{part_covers}
-use Rattle.outcomes.specs.Outcome.{Outcome, accepted}
+use Rattle.outcomes.specs.Outcome.{accepted}
 use Rattle.outcomes.specs.Refusal.{refusing}
 use Rattle.outcomes.specs.Checks.{NoneOf}
 use Rattle.outcomes.specs.declared.Refusal.TheVariants as refusal
@@ -21,13 +21,13 @@ use Rattle.reception.specs.declared.Reception.{Reception}
 use Rattle.reception.specs.Record.{record_checks}
 use Rattle.reception.specs.Data.{data_leaves, segment_checks, data_checks}
 use Rattle.reception.specs.Eof.{eof_leaves, size_checks, eof_checks}
-use Rattle.reception.specs.History.{Data, Eof, ranges_of}
+use Rattle.reception.specs.History.{Data, Eof}
 use Rattle.reception.proofs.Keeping.{kept_covers}
 use Rattle.reception.proofs.Sound.{none-join}
 use Rattle.reception.proofs.Standing.{Standing, standing-passed, after-whole}
 use Rattle.reception.proofs.eof.Tail.{tail-whole, tail_covers}
 use Rattle.pooling.specs.declared.Pool.{Pool}
-use Rattle.pooling.specs.Pool.{most_transfers, record_at, count_at, floor_at, limit_at, sum, any_below, is_floor_above, is_bad_settings, NoRoom}
+use Rattle.pooling.specs.Pool.{most_transfers, record_at, count_at, floor_at, sum, any_below, is_floor_above, is_bad_settings, NoRoom}
 use Rattle.pooling.specs.Share.{pool_checks, own_list}
 use Rattle.pooling.proofs.Sums.{none_any}
 use Rattle.pooling.proofs.Own.{Settled}

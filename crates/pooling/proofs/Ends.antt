@@ -1,6 +1,6 @@
 -- What an event of a transfer answers and leaves: refused, and nothing changes; or accepted, and the transfer's record and ranges are those
 -- that the event of its own reception leaves.
-use mathlib.Core.Path.{◌≡◌, refl, sym, ap, ap₂, ◌∙◌}
+use mathlib.Core.Path.{◌≡◌, sym, ap, ◌∙◌}
 use mathlib.Core.Bool.{Bool, true, false, cond}
 use mathlib.Core.List.{List, [], ◌∷◌, ◌++◌}
 use Prim.Native.Nat.{ℕ, ◌<◌}
@@ -25,7 +25,7 @@ use Rattle.reception.specs.History.{Event, Data, Metadata, Eof, outcome, step, r
 use Rattle.reception.proofs.Sound.{none-split}
 use Rattle.pooling.specs.declared.Pool.{Pool}
 use Rattle.pooling.specs.Pool.{record_at, with_record}
-use Rattle.pooling.specs.Share.{total, is_unknown, is_bad_share, pool_checks, own_list, own_state}
+use Rattle.pooling.specs.Share.{total, is_bad_share, pool_checks, own_list, own_state}
 use Rattle.pooling.specs.Events.{event_outcome, event_pool, with_ranges, event_list}
 use Rattle.pooling.proofs.Own.{Settled, Shared, known, shared}
 

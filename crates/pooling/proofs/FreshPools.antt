@@ -1,14 +1,12 @@
 -- The pool that the host begins with is a fresh one.
-use mathlib.Core.Path.{◌≡◌, refl, sym, ap, ◌∙◌}
-use mathlib.Core.List.{List, [], ◌∷◌}
-use Prim.Native.Nat.{ℕ, zero, suc, ◌+◌, ◌≤◌, ◌<◌}
+use mathlib.Core.Path.{◌≡◌, refl}
+use mathlib.Core.List.{List}
+use Prim.Native.Nat.{ℕ, zero, suc, ◌≤◌, ◌<◌}
 use native.Mathlib.Omega.{arith}
-use lib.ListN.{length, get_or}
+use lib.ListN.{get_or}
 use Rattle.ranges.specs.declared.Width.{Width}
-use Rattle.ranges.specs.declared.Width.TheVariants.{Wide}
-use Rattle.reception.specs.declared.Reception.{Reception}
 use Rattle.reception.specs.Record.{fresh_record}
-use Rattle.pooling.specs.Pool.{most_transfers, nowhere, record_at, fresh_records, fresh_pool}
+use Rattle.pooling.specs.Pool.{most_transfers, nowhere, fresh_records, fresh_pool}
 use Rattle.pooling.specs.History.{Fresh}
 
 fresh_at : (ws : List Width) (j n k : ℕ) → k < n → get_or (fresh_records ws j n) k nowhere ≡ fresh_record (get_or (fresh_records ws j n) k nowhere).width

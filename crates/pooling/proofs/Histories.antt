@@ -1,32 +1,28 @@
 -- From a fresh pool with good settings, after any list of events: every transfer is as a reception of its own, none is past its limit,
 -- and the sum of the larger of held and floor is within the slots.
-use mathlib.Core.Path.{◌≡◌, refl, sym, ap, ap₂, ◌∙◌}
-use mathlib.Core.Bool.{Bool, true, false, ◌&&◌, ◌||◌, not, cond, true≢false}
-use mathlib.Core.List.{List, [], ◌∷◌, ◌++◌}
+use mathlib.Core.Path.{◌≡◌, refl, sym, ap, ◌∙◌}
+use mathlib.Core.Bool.{Bool, true, false, ◌&&◌, ◌||◌, not, cond}
+use mathlib.Core.List.{List, [], ◌∷◌}
 use mathlib.Core.Logic.{◌⊎◌, inl, inr, ⊎_elim, ◌↔◌}
 use Prim.Native.Nat.{ℕ, zero, suc, ◌+◌, ◌*◌, ◌/◌, ◌≤◌, ◌<◌, max}
 use native.Mathlib.Omega.{arith}
-use native.Mathlib.Decide.{dec_lt}
-use lib.Dec.{eqb, leb, ltb}
-use lib.ListN.{length, take, drop, length-set}
-use borrow.Author.Tests.{eqb-true, eqb-false, eq-eqb, ne_eqb, lt-leb, le-leb}
+use lib.Dec.{eqb}
+use lib.ListN.{length, take, length-set}
+use borrow.Author.Tests.{eqb-true, eqb-false, lt-leb}
 use Rattle.ranges.specs.Range.{Range, Covers}
-use Rattle.ranges.specs.Store.{pairs, flat, counted, capacity, most_pairs, stored}
-use Rattle.ranges.proofs.Flat.{length-counted, pairs-flat, flat-counted}
+use Rattle.ranges.specs.Store.{pairs, flat, capacity, most_pairs}
+use Rattle.ranges.proofs.Flat.{length-counted, flat-counted}
 use Rattle.ranges.proofs.Test.{or-none, and_none}
-use Rattle.outcomes.specs.Outcome.{Outcome}
-use Rattle.outcomes.specs.Checks.{NoneOf, first_of}
-use Rattle.outcomes.proofs.FirstOf.{first-none, first-accepted}
+use Rattle.outcomes.specs.Checks.{NoneOf}
+use Rattle.outcomes.proofs.FirstOf.{first-accepted}
 use Rattle.reception.specs.declared.Reception.{Reception}
-use Rattle.reception.specs.Record.{fresh_record, is_bad_record}
 use Rattle.reception.specs.History.{Event, State, fresh as alone, outcome, is_accepted, step, is_metadata, kept_by, ranges_of}
 use Rattle.reception.proofs.Records.{step_mark, or_assoc}
-use Rattle.reception.proofs.Standing.{Standing, standing-passed}
+use Rattle.reception.proofs.Standing.{standing-passed}
 use Rattle.reception.proofs.Histories.{Holds, holds_same, split-kept, step-holds, holds}
 use Rattle.pooling.specs.declared.Pool.{Pool}
-use Rattle.pooling.specs.Pool.{most_transfers, record_at, count_at, floor_at, limit_at, with_record, sum, any_below, is_bad_settings, claim_at, claimed, is_no_room}
-use Rattle.pooling.specs.Share.{base, total, own_part, own_ranges, is_unknown, is_bad_share, is_bad_transfer, is_bad_pool, pool_checks, own_list, own_state}
-use Rattle.pooling.specs.Events.{event_outcome, event_pool, with_ranges, event_list}
+use Rattle.pooling.specs.Pool.{most_transfers, record_at, count_at, floor_at, limit_at, sum, is_bad_settings, claim_at, claimed, is_no_room}
+use Rattle.pooling.specs.Share.{total, own_part, own_ranges, is_bad_transfer, is_bad_pool, pool_checks, own_list, own_state}
 use Rattle.pooling.proofs.Sums.{sum_same, none_any}
 use Rattle.pooling.proofs.Own.{
   Settled,
@@ -49,8 +45,8 @@ use Rattle.pooling.proofs.Own.{
   length_ranges,
   own_bad,
 }
-use Rattle.pooling.proofs.Ends.{Ready, ready, new_pool, new_list, own-outcome}
-use Rattle.pooling.specs.History.{PoolState, PoolEvent, Fresh, answered, is_taken, pool_step, pool_run, takes, came_of, kept_from_of, kept_of, accepted_of}
+use Rattle.pooling.proofs.Ends.{ready, new_pool, new_list}
+use Rattle.pooling.specs.History.{PoolState, PoolEvent, Fresh, is_taken, pool_step, pool_run, takes, came_of, kept_from_of, kept_of, accepted_of}
 use Rattle.pooling.proofs.Stepped.{record_same, record_other, part_same, part_other, ranges_same, claimed-is, all-length}
 use Rattle.pooling.proofs.Stepped as stepped
 use Rattle.pooling.proofs.Rooms.{another_room}

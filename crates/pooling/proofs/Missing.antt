@@ -2,14 +2,14 @@
 -- exactly the maximal runs of its offsets below its largest accepted end that none of its kept ranges covers; none is past its limit, and
 -- the sum of the larger of held and floor is within the slots. An event of one transfer leaves every other as it was.
 use mathlib.Core.Path.{◌≡◌, refl, sym, ap, ◌∙◌}
-use mathlib.Core.Bool.{Bool, true, false, ◌&&◌, cond, true≢false}
+use mathlib.Core.Bool.{Bool, true, false}
 use mathlib.Core.List.{List, [], ◌∷◌}
 use mathlib.Core.Logic.{◌↔◌}
-use Prim.Native.Nat.{ℕ, ◌+◌, ◌*◌, ◌≤◌, ◌<◌, max}
+use Prim.Native.Nat.{ℕ, ◌*◌, ◌≤◌, ◌<◌, max}
 use native.Mathlib.Omega.{arith}
 use lib.Dec.{eqb}
 use lib.ListN.{length, get_or}
-use borrow.Author.Tests.{eqb-true, eqb-false, eq-eqb}
+use borrow.Author.Tests.{eqb-true, eqb-false}
 use Rattle.ranges.specs.Range.{Range, Covers, Coalesced, last_end}
 use Rattle.ranges.specs.Run.{RunsOf}
 use Rattle.ranges.specs.Store.{pairs, capacity, most_pairs}
@@ -17,17 +17,15 @@ use Rattle.ranges.proofs.Runs.{runs_of}
 use Rattle.ranges.proofs.Test.{and_none}
 use Rattle.outcomes.proofs.FirstOf.{first-accepted}
 use Rattle.reception.specs.declared.Reception.{Reception}
-use Rattle.reception.specs.Record.{fresh_record}
-use Rattle.reception.specs.History.{Event, outcome, is_accepted, step, end_by, ranges_of}
+use Rattle.reception.specs.History.{outcome, is_accepted, end_by, ranges_of}
 use Rattle.reception.proofs.Records.{step-progress, larger_end}
-use Rattle.reception.proofs.Histories.{Holds}
 use Rattle.pooling.specs.declared.Pool.{Pool}
-use Rattle.pooling.specs.Pool.{record_at, count_at, floor_at, limit_at, is_bad_settings, claimed}
-use Rattle.pooling.specs.Share.{own_part, own_ranges, pool_checks}
+use Rattle.pooling.specs.Pool.{record_at, count_at, limit_at, is_bad_settings, claimed}
+use Rattle.pooling.specs.Share.{own_ranges, pool_checks}
 use Rattle.pooling.proofs.Own.{counted-list}
 use Rattle.pooling.proofs.Ends.{ready}
-use Rattle.pooling.specs.History.{PoolState, PoolEvent, Fresh, answered, is_taken, pool_step, pool_run, takes, kept_of, accepted_of, came_of, largest_of, MissingOf}
-use Rattle.pooling.proofs.Histories.{own, room_at, PoolHolds, record_own, record_others, ranges_own, part-others, refused-same, pool-step, start, pool-holds, start-holds}
+use Rattle.pooling.specs.History.{PoolState, PoolEvent, Fresh, is_taken, pool_step, pool_run, takes, kept_of, accepted_of, came_of, largest_of, MissingOf}
+use Rattle.pooling.proofs.Histories.{own, PoolHolds, record_own, record_others, part-others, pool-step, start, pool-holds, start-holds}
 
 -- an accepted event is one of a transfer in use, and its own reception accepts it
 pub own-accepts : (s : PoolState) (e : PoolEvent) → is_taken s e ≡ true → (e.0 < s.pool.used) × (is_accepted (own s e.0) e.1 ≡ true)

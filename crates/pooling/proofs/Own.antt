@@ -1,25 +1,23 @@
 -- What the checks 23 and 10 leave known in numbers; where the parts of the transfers lie; and the list that a transfer has for an event.
-use mathlib.Core.Path.{◌≡◌, refl, sym, ap, ap₂, ◌∙◌}
+use mathlib.Core.Path.{◌≡◌, refl, sym, ap, ◌∙◌}
 use mathlib.Core.Bool.{Bool, true, false, ◌&&◌, ◌||◌, cond, true≢false}
-use mathlib.Core.List.{List, [], ◌∷◌, ◌++◌}
+use mathlib.Core.List.{List}
 use mathlib.Core.Logic.{◌⊎◌, inl, inr, ◌↔◌}
-use Prim.Native.Nat.{ℕ, zero, suc, ◌+◌, ◌*◌, ◌-◌, ◌/◌, ◌%◌, ◌≤◌, ◌<◌, max}
+use Prim.Native.Nat.{ℕ, suc, ◌+◌, ◌*◌, ◌-◌, ◌%◌, ◌≤◌, ◌<◌}
 use native.Mathlib.Omega.{arith}
 use native.Mathlib.Decide.{dec_lt}
 use lib.Dec.{leb, ltb, eqb}
 use lib.ListN.{length, take, drop, length-append, length-drop}
 use lib.Seq.{take_at, take_all, length-take-le}
 use borrow.Author.Tests.{eqb-false, ltb-false, leb-false, ne_eqb, le-ltb, le-leb, eq-eqb, lt-ltb, ltb-true, leb-true, eqb-true}
-use Rattle.ranges.specs.Range.{Range}
 use Rattle.ranges.specs.Store.{pairs, counted, capacity, most_pairs, most_numbers, limit_of, is_bad_store, any_above}
 use Rattle.ranges.proofs.Test.{or_false, or_true, and_true}
 use Rattle.ranges.proofs.Flat.{length-counted}
-use Rattle.outcomes.specs.Checks.{Check}
 use Rattle.reception.specs.declared.Reception.{Reception}
 use Rattle.reception.specs.Record.{is_bad_record, record_checks}
 use Rattle.pooling.specs.declared.Pool.{Pool}
 use Rattle.pooling.specs.Pool.{most_transfers, record_at, count_at, floor_at, limit_at, sum, any_below, is_floor_above, is_bad_settings, claim_at, claimed, NoRoom, is_no_room}
-use Rattle.pooling.specs.Share.{base, total, part, own_part, own_ranges, is_unknown, is_past_limit, is_bad_share, is_bad_transfer, free_slot, own_list}
+use Rattle.pooling.specs.Share.{base, total, own_part, own_ranges, is_unknown, is_past_limit, is_bad_share, is_bad_transfer, free_slot, own_list}
 use Rattle.pooling.proofs.Sums.{sum-within, sum_le, sum_less, any_none, none_any}
 
 -- the settings are good

@@ -1,17 +1,17 @@
 -- The pool's rule for room: an otherwise valid event is refused with 1 exactly if it would leave more ranges than the transfer holds and
 -- one more would pass its limit, or it holds its floor and the sum of the larger of held and floor is S. Below its floor it never is.
-use mathlib.Core.Path.{◌≡◌, refl, sym, ap, ap₂, ◌∙◌}
-use mathlib.Core.Bool.{Bool, true, false, ◌&&◌, ◌||◌, cond, true≢false}
+use mathlib.Core.Path.{◌≡◌, refl, sym, ap, ◌∙◌}
+use mathlib.Core.Bool.{Bool, true, false, ◌&&◌, cond}
 use mathlib.Core.List.{List, [], ◌∷◌, ◌++◌}
-use mathlib.Core.Logic.{◌⊎◌, inl, inr, ⊎_elim, ◌↔◌}
-use Prim.Native.Nat.{ℕ, suc, ◌+◌, ◌*◌, ◌≤◌, ◌<◌}
+use mathlib.Core.Logic.{inl, inr, ◌↔◌}
+use Prim.Native.Nat.{ℕ, suc, ◌+◌, ◌≤◌, ◌<◌}
 use native.Mathlib.Omega.{arith}
-use lib.Dec.{leb, ltb, eqb}
+use lib.Dec.{ltb}
 use lib.ListN.{length}
-use borrow.Author.Tests.{le-ltb, lt-ltb, lt-leb, ltb-true, ltb-false, leb-true, eqb-true, le-leb, eq-eqb}
+use borrow.Author.Tests.{le-ltb, lt-ltb, ltb-true}
 use Rattle.ranges.specs.Range.{Range}
 use Rattle.ranges.specs.Store.{capacity, counted}
-use Rattle.ranges.proofs.Test.{or_true, and_true}
+use Rattle.ranges.proofs.Test.{and_true}
 use Rattle.outcomes.specs.Outcome.{Outcome, accepted}
 use Rattle.outcomes.specs.Refusal.{refusing}
 use Rattle.outcomes.specs.Checks.{NoneOf}
@@ -19,19 +19,17 @@ use Rattle.outcomes.specs.declared.Refusal.TheVariants as refusal
 use Rattle.outcomes.proofs.FirstOf.{first-none}
 use Rattle.outcomes.proofs.Ends.{none_other}
 use Rattle.reception.specs.declared.Reception.{Reception}
-use Rattle.reception.specs.Data.{data_leaves, is_full, data_checks, room_outcome, data_outcome}
+use Rattle.reception.specs.Data.{data_leaves, is_full, data_checks, room_outcome}
 use Rattle.reception.specs.Metadata.{metadata_checks, metadata_outcome}
-use Rattle.reception.specs.Eof.{eof_leaves, eof_checks, tail_outcome, eof_outcome}
+use Rattle.reception.specs.Eof.{eof_leaves, eof_checks, tail_outcome}
 use Rattle.reception.specs.History.{Event, Data, Metadata, Eof, outcome}
 use Rattle.reception.proofs.Sound.{sound, none-join}
 use Rattle.reception.proofs.data.Accepted.{checked}
-use Rattle.reception.proofs.eof.Accepted.{eof_checked}
-use Rattle.ranges.proofs.Flat.{length-counted}
 use Rattle.pooling.specs.declared.Pool.{Pool}
-use Rattle.pooling.specs.Pool.{record_at, count_at, floor_at, limit_at, claimed, NoRoom, is_no_room}
+use Rattle.pooling.specs.Pool.{record_at, count_at, floor_at, NoRoom, is_no_room}
 use Rattle.pooling.specs.Share.{pool_checks, own_list, own_state}
 use Rattle.pooling.specs.Events.{event_outcome}
-use Rattle.pooling.proofs.Own.{no_room, room_of, list-capacity, list_length, counted-list, length_ranges, held-room}
+use Rattle.pooling.proofs.Own.{no_room, list-capacity, counted-list, length_ranges}
 use Rattle.pooling.proofs.Grows.{data_grows, eof_grows}
 use Rattle.pooling.proofs.Ends.{Ready, ready, own-outcome, data_full, data-taken, eof_full, eof-ended}
 

@@ -1,15 +1,10 @@
 -- What holds of a reception holds of one with the same record and the same ranges, in a list with another room.
 use mathlib.Core.Path.{◌≡◌, sym, ap, ◌∙◌}
-use mathlib.Core.Bool.{Bool, true, false}
-use mathlib.Core.List.{List}
 use Prim.Native.Nat.{ℕ, ◌*◌, ◌≤◌}
 use lib.ListN.{length, take}
-use Rattle.ranges.specs.Range.{Range}
 use Rattle.ranges.specs.Store.{flat, most_pairs}
-use Rattle.ranges.specs.declared.Width.{Width}
 use Rattle.reception.specs.declared.Reception.{Reception}
 use Rattle.reception.specs.History.{State, ranges_of}
-use Rattle.reception.proofs.Standing.{Standing}
 use Rattle.reception.proofs.Histories.{Holds}
 
 module _ (s t : State) (N M : ℕ) (P : ℕ → Type 0) (n : ℕ) (e : s.rec ≡ t.rec) (r : ranges_of s ≡ ranges_of t) (size : length t.list ≡ 2 * M) (few : M ≤ most_pairs)

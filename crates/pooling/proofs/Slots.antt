@@ -1,6 +1,6 @@
 -- The list's slots follow the pool's whole count: from the new whole count up to the old one they are (0, 0), past both they stay.
 use mathlib.Core.Path.{◌≡◌, ap, ◌∙◌}
-use mathlib.Core.Bool.{Bool, true}
+use mathlib.Core.Bool.{true}
 use mathlib.Core.List.{List}
 use Prim.Native.Nat.{ℕ, ◌*◌, ◌≤◌, ◌<◌}
 use lib.Dec.{eqb}

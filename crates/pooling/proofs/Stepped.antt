@@ -1,21 +1,19 @@
 -- A pool in which one transfer got another record and other ranges: every other transfer has its own as before.
-use mathlib.Core.Path.{◌≡◌, refl, sym, ap, ap₂, ◌∙◌}
-use mathlib.Core.Bool.{Bool, true, false, cond}
-use mathlib.Core.List.{List, [], ◌∷◌, ◌++◌}
-use mathlib.Core.Logic.{◌⊎◌, inl, inr, ⊎_elim}
-use Prim.Native.Nat.{ℕ, zero, suc, ◌+◌, ◌*◌, ◌-◌, ◌≤◌, ◌<◌, max}
+use mathlib.Core.Path.{◌≡◌, sym, ap, ap₂, ◌∙◌}
+use mathlib.Core.List.{List}
+use Prim.Native.Nat.{ℕ, ◌+◌, ◌*◌, ◌-◌, ◌≤◌, ◌<◌, max}
 use native.Mathlib.Omega.{arith}
 use native.Mathlib.Decide.{dec_lt}
-use lib.ListN.{length, get_or, take, drop, set}
+use lib.ListN.{length, take, drop}
 use lib.Seq.{get_or-set_same, get_or-set_other}
 use Rattle.ranges.specs.Range.{Range}
-use Rattle.ranges.specs.Store.{pairs, flat, counted, capacity, stored}
+use Rattle.ranges.specs.Store.{pairs, flat, counted, stored}
 use Rattle.ranges.proofs.Flat.{length-counted, pairs-flat}
 use Rattle.ranges.proofs.Stored.{counted-stored, length-stored}
 use Rattle.reception.specs.declared.Reception.{Reception}
 use Rattle.pooling.specs.declared.Pool.{Pool}
-use Rattle.pooling.specs.Pool.{nowhere, record_at, count_at, floor_at, limit_at, with_record, sum, claim_at, claimed}
-use Rattle.pooling.specs.Share.{base, total, all_ranges, part, own_part, own_ranges}
+use Rattle.pooling.specs.Pool.{nowhere, record_at, count_at, floor_at, with_record, claim_at, claimed}
+use Rattle.pooling.specs.Share.{base, total, all_ranges, own_part, own_ranges}
 use Rattle.pooling.specs.Events.{with_ranges}
 use Rattle.pooling.proofs.Sums.{sum-within, sum_same, sum_other}
 use Rattle.pooling.proofs.Replacing.{before, self, behind, new_length, some-counted}

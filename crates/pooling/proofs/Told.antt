@@ -1,25 +1,22 @@
 -- What any list of events leaves in the record of a transfer, besides progress: the width is the one that it began with, the mark is clear
 -- exactly if a metadata event of its own was accepted, and the size is the one that its accepted EOF told.
 use mathlib.Core.Path.{◌≡◌, refl, sym, ap, ◌∙◌}
-use mathlib.Core.Bool.{Bool, true, false, ◌&&◌, not, cond}
+use mathlib.Core.Bool.{Bool, true, false, not, cond}
 use mathlib.Core.List.{List, [], ◌∷◌}
 use Prim.Native.Nat.{ℕ, ◌*◌, ◌≤◌, ◌<◌}
-use native.Mathlib.Omega.{arith}
 use lib.Dec.{eqb}
 use lib.ListN.{length}
 use borrow.Author.Tests.{eqb-true, eqb-false}
 use Rattle.ranges.specs.Store.{capacity, most_pairs}
-use Rattle.ranges.specs.declared.Width.{Width}
 use Rattle.ranges.proofs.Test.{and_none, and_true}
 use Rattle.reception.specs.declared.Reception.{Reception}
-use Rattle.reception.specs.Record.{fresh_record}
 use Rattle.reception.specs.History.{is_accepted, step, size_by}
 use Rattle.reception.proofs.Records.{step_width, size_of, later, step-size, later_by}
 use Rattle.pooling.specs.declared.Pool.{Pool}
 use Rattle.pooling.specs.Pool.{record_at, is_bad_settings}
 use Rattle.pooling.specs.History.{PoolState, PoolEvent, Fresh, is_taken, pool_step, pool_run, takes, came_of, told_of}
 use Rattle.pooling.proofs.Histories.{own, PoolHolds, record_own, pool-step, start, start-holds}
-use Rattle.pooling.proofs.Missing.{own-accepts, used_step, other_record, all_hold, in_use}
+use Rattle.pooling.proofs.Missing.{own-accepts, other_record, all_hold, in_use}
 
 module _ (s : PoolState) (P : ℕ → ℕ → Type 0) (n : ℕ → ℕ) (known : ℕ → Bool) (h : PoolHolds s P n known) (e : PoolEvent) (k : ℕ) where
   -- an event of transfer k that is accepted is one that its own reception accepts

@@ -8,7 +8,7 @@ use lib.Dec.{eqb}
 use lib.ListN.{length, take, drop, take-append-drop}
 use lib.Seq.{take-add}
 use Rattle.ranges.specs.Range.{Range}
-use Rattle.ranges.specs.Store.{pairs, capacity, counted, stored}
+use Rattle.ranges.specs.Store.{pairs, stored}
 use Rattle.ranges.specs.Inner.Moves.{replaced}
 use Rattle.ranges.proofs.Flat.{pairs-flat}
 use Rattle.ranges.proofs.Stored.{stored_same}
@@ -16,7 +16,7 @@ use Rattle.outcomes.proofs.FirstOf.{first-accepted}
 use Rattle.reception.specs.History.{Metadata, outcome, step, ranges_of}
 use Rattle.pooling.specs.declared.Pool.{Pool}
 use Rattle.pooling.specs.Pool.{record_at, count_at, claimed}
-use Rattle.pooling.specs.Share.{base, total, all_ranges, own_ranges, pool_checks, own_list, own_state}
+use Rattle.pooling.specs.Share.{base, total, all_ranges, pool_checks, own_list, own_state}
 use Rattle.pooling.specs.Events.{event_outcome, with_ranges, event_list}
 use Rattle.pooling.proofs.Own.{part-ends, total-claimed, counted-list}
 use Rattle.pooling.proofs.Ends.{Ready, ready}

@@ -7,7 +7,7 @@ use Rattle.outcomes.specs.declared.Refusal.TheVariants as refusal
 use Rattle.reception.specs.Record.{is_bad_record}
 use Rattle.reception.specs.History.{State}
 use Rattle.pooling.specs.declared.Pool.{Pool}
-use Rattle.pooling.specs.Pool.{record_at, count_at, floor_at, limit_at, sum, any_below, is_bad_settings, claimed, is_no_room}
+use Rattle.pooling.specs.Pool.{record_at, count_at, limit_at, sum, any_below, is_bad_settings, claimed, is_no_room}
 
 -- The transfers' ranges lie back to back, in order: those of transfer i behind those of the transfers before it.
 abbrev pub base : Pool → ℕ → ℕ

@@ -1,5 +1,7 @@
 // Several transfers that share one list: the pool, and what its events answer and leave. The calls are in the crates pool and
 // pool_report.
+#![tactic(auto)]
+
 ghost use Rattle.std.specs.Prelude.{◌≡◌};
 ghost use Rattle.pooling.specs.Pool.{fresh_pool};
 
@@ -11,7 +13,7 @@ use reception::metadata::MetadataAnswer;
 
 // A pool, which the host keeps beside the list that it lends: how many transfers are in use, and of each its record, its floor and its
 // limit, both in ranges.
-#[derive(Drop)]
+#[derive(Clone, Copy)]
 pub struct Pool {
     pub used: usize,
     pub records: [Reception; 8],
@@ -42,19 +44,19 @@ impl Pool {
 }
 
 // What a caller has after a step: the answer, and the pool afterwards.
-#[derive(Drop)]
+#[derive(Clone, Copy)]
 pub struct DataDone {
     pub answer: DataAnswer,
     pub pool: Pool,
 }
 
-#[derive(Drop)]
+#[derive(Clone, Copy)]
 pub struct MetadataDone {
     pub answer: MetadataAnswer,
     pub pool: Pool,
 }
 
-#[derive(Drop)]
+#[derive(Clone, Copy)]
 pub struct EofDone {
     pub answer: EofAnswer,
     pub pool: Pool,
