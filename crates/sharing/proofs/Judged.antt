@@ -1,12 +1,11 @@
 -- A call's checks behind 23 and 10. The code leaves the record of the transfer that is named to its own checks, which begin with 10; the
 -- definition asks for the 10 of every transfer first. Both say the same.
-use mathlib.Core.Path.{◌≡◌, refl, sym, ap, ap₂, ◌∙◌}
-use mathlib.Core.Bool.{Bool, true, false, ◌&&◌, ◌||◌, not, cond}
-use mathlib.Core.List.{List, [], ◌∷◌, ◌++◌}
+use mathlib.Core.Path.{◌≡◌, refl, sym, ap, ◌∙◌}
+use mathlib.Core.Bool.{Bool, true, false, cond}
+use mathlib.Core.List.{List, [], ◌++◌}
 use Prim.Native.Nat.{ℕ, ◌<◌}
 use lib.Dec.{eqb}
-use borrow.Author.Tests.{eq-eqb, ne_eqb, eqb-true}
-use Rattle.ranges.proofs.Test.{or_true, and_true}
+use borrow.Author.Tests.{eqb-true}
 use Rattle.outcomes.specs.Outcome.{Outcome, accepted}
 use Rattle.outcomes.specs.Refusal.{refusing}
 use Rattle.outcomes.specs.Checks.{Check, first_of, NoneOf, verdict_case}
@@ -15,11 +14,11 @@ use Rattle.outcomes.specs.declared.Refusal.TheVariants as refusal
 use Rattle.outcomes.specs.declared.Verdict.{Verdict}
 use Rattle.outcomes.specs.declared.Verdict.TheVariants as verdict
 use Rattle.outcomes.proofs.FirstOf.{first-refused, first-append, first-none, none_of}
-use Rattle.reception.specs.Record.{is_bad_record, record_checks}
+use Rattle.reception.specs.Record.{record_checks}
 use Rattle.pooling.specs.declared.Pool.{Pool}
 use Rattle.pooling.specs.Pool.{record_at, any_below}
 use Rattle.pooling.specs.Share.{own_part, is_unknown, is_bad_share, is_bad_transfer, pool_checks}
-use Rattle.pooling.proofs.Sums.{any_none, none_any, some_any, any_same}
+use Rattle.pooling.proofs.Sums.{some_any, any_same}
 use Rattle.sharing.specs.Inner.{is_bad_other, other_checks}
 
 -- where the one named is not 10, 10 of the others is 10 of all

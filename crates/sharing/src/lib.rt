@@ -1,2 +1,4 @@
 // How the transfers of a pool share its list: the checks 23 and 10.
+#![tactic(auto)]
+
 pub mod inner;
