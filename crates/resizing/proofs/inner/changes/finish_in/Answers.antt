@@ -1,0 +1,21 @@
+-- `finish_in` meets its contract: the event is tried in the slots held; else room is made, if there may be.
+use Rattle.std.proofs.Common.{sym, ◌∙◌, ℕ, suc, ◌+◌, ◌*◌, cond, List}
+use Rattle.ranges.specs.Range.{Range}
+use Rattle.ranges.specs.Store.{counted}
+use Rattle.reception.specs.Eof.{eof_ranges}
+use Rattle.pooling.specs.Share.{part}
+use Rattle.pooling.proofs.Own.{held-room}
+use Rattle.resizing.proofs.Moved.{held-left, held-ends}
+use Rattle.resizing.proofs.inner.changes.finish_in.Goals as goal
+
+pub returns-in-Left-clause-list_after : goal.returns-in-Left-clause-list_after
+returns-in-Left-clause-list_after c =
+    let a = c.args in
+    let r = c.requires in
+    let d = c.finish-left in
+    let n : ℕ = c.in-Left.n in
+    let held : List ℕ = part (2 * a.at) (2 * (a.at + a.m)) a.list.now in
+    let qs : List Range = eof_ranges a.missing a.p a.z (counted held a.m) in
+    let w = held-left a.list.now a.at a.m a.total qs r.m_bound.0 r.m_bound.1.0 d.new.list n (sym c.in-Left.is ∙ d.ensures.value) d.ensures.list_after in
+    (held-ends a.list.now a.at a.m a.total qs r.m_bound.0 r.m_bound.1.0 d.new.list c.close_up.new.list n (cond a.full a.m (suc a.m))
+    (held-room a.full a.m) w.0 w.1.0 w.1.1 c.close_up.ensures).1
