@@ -1,11 +1,13 @@
 // C's values: what the numbers that C hands over stand for, and what it is handed back besides answers.
+#![tactic(auto)]
+
 pub mod inner; // inner.rt: C's numbers read as the calls' types
 pub mod pdu; // pdu.rt: what reading and a step hand back
 pub mod record_events; // record_events.rt: the three events on C's record
 
 // The record of a reception. Of `narrow`, `missing` and `sized`, 0 is no and any other number is yes.
 #[repr(C)]
-#[derive(Drop)]
+#[derive(Clone, Copy)]
 pub struct PusmarkeReception {
     pub progress: u64,
     pub count: usize,
@@ -16,7 +18,7 @@ pub struct PusmarkeReception {
 }
 
 #[repr(C)]
-#[derive(Drop)]
+#[derive(Clone, Copy)]
 pub struct PusmarkeIdentity {
     pub entity_length: usize,
     pub number_length: usize,
@@ -27,7 +29,7 @@ pub struct PusmarkeIdentity {
 
 // The form of a PDU: of `older`, `large` and `crc`, 0 is no and any other number is yes.
 #[repr(C)]
-#[derive(Drop)]
+#[derive(Clone, Copy)]
 pub struct PusmarkeForm {
     pub older: u64,
     pub large: u64,
@@ -36,7 +38,7 @@ pub struct PusmarkeForm {
 
 // What reading hands back; refusal 3 carries `start` and `end`.
 #[repr(C)]
-#[derive(Drop)]
+#[derive(Clone, Copy)]
 pub struct PusmarkeNak {
     pub refusal: u64,
     pub start: u64,
@@ -53,7 +55,7 @@ pub struct PusmarkeNak {
 
 // What a step finds: 1 and a request, or 0 at the end; and the place after it.
 #[repr(C)]
-#[derive(Drop)]
+#[derive(Clone, Copy)]
 pub struct PusmarkeStep {
     pub found: u64,
     pub start: u64,

@@ -16,7 +16,7 @@ use event_cores::eof::eof_core;
 use event_cores::metadata::metadata_core;
 
 // What an event leaves: the answer, and C's record.
-#[derive(Drop)]
+#[derive(Clone, Copy)]
 pub struct EventOut {
     pub answer: PusmarkeAnswer,
     pub rec: PusmarkeReception,

@@ -1,0 +1,14 @@
+-- `record_events::data_whole` meets its contract.
+use mathlib.Core.Path.{◌≡◌, ap, ◌∙◌}
+use Rattle.reception.specs.declared.Reception.{Reception}
+use Rattle.answers.specs.Answer.{answer_of}
+use Rattle.c_values.specs.Input.{record_in}
+use Rattle.c_values.specs.Output.{advanced_to}
+use Rattle.c_values.proofs.record_events.data_whole.Goals as goal
+
+pub returns : goal.returns
+returns c =
+    let a = c.args in
+    let own : c.record_in-own.result ≡ record_in a.rec = c.record_in-own.ensures in
+    let said = rw own at c.data_core-done.ensures in
+    (c.of_data-answer.ensures ∙ ap answer_of said.0, (ap (λ (new : Reception). advanced_to new a.rec) said.1.0, said.1.1))
