@@ -1,4 +1,6 @@
 // A pool of transfers for C: its records in numbers, a fresh one, and the calls on it by value.
+#![tactic(auto)]
+
 use answers::PusmarkeAnswer;
 use c_values::PusmarkeReception;
 
@@ -8,7 +10,7 @@ pub mod whole; // whole.rt: the three events of a transfer
 
 // A pool: how many transfers are in use, and of each its record, its floor and its limit, both in ranges.
 #[repr(C)]
-#[derive(Drop)]
+#[derive(Clone, Copy)]
 pub struct PusmarkePool {
     pub used: usize,
     pub records: [PusmarkeReception; 8],
@@ -17,7 +19,7 @@ pub struct PusmarkePool {
 }
 
 // What an event leaves: the answer, and C's pool.
-#[derive(Drop)]
+#[derive(Clone, Copy)]
 pub struct PoolOut {
     pub answer: PusmarkeAnswer,
     pub pool: PusmarkePool,
