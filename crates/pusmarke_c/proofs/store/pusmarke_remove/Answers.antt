@@ -1,0 +1,12 @@
+-- `store::pusmarke_remove` meets its contract: it says of C's numbers what the call that it wraps says of its own types.
+use mathlib.Core.Path.{ap, ◌∙◌}
+use Rattle.answers.specs.Answer.{answer_of}
+use Rattle.pusmarke_c.proofs.store.pusmarke_remove.Goals as goal
+
+pub returns : goal.returns
+returns c =
+    let store = c.store_of-store.ensures in
+    let said = c.remove.ensures in record {
+      value = c.of_remove.ensures ∙ ap answer_of (rw store at said.result_value);
+      list_after = rw store at said.list_after;
+    }
