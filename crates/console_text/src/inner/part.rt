@@ -1,6 +1,6 @@
 // Parts of what is lent: so many, but no more than there are.
 ghost use Rattle.std.specs.Prelude.{◌≤◌};
-ghost use Rattle.io.specs.Counts.{IsPrefixLen};
+ghost use Rattle.console_text.specs.Counts.{IsPrefixLen};
 
 // n, but no more than `most`.
 pub fn at_most(n: usize, most: usize) -> usize

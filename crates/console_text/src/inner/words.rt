@@ -18,7 +18,7 @@ const POOL_RANGES: u64 = 4100;
 const MOST_TICKS: u64 = 1000000;
 
 // The octets of a line from `from` up to `to`; none where no word is left.
-#[derive(Drop)]
+#[derive(Clone, Copy)]
 pub struct Word {
     pub from: usize,
     pub to: usize,
@@ -83,7 +83,7 @@ pub fn same(a: &[u8], b: &[u8]) -> bool {
 }
 
 // What a word says: a number, or nothing that can be taken.
-#[derive(Drop)]
+#[derive(Clone, Copy)]
 pub enum Value {
     Number(u64),
     Wrong,
@@ -177,7 +177,7 @@ fn read_word(word: &[u8], kind: u8) -> Value {
 }
 
 // The number that the next word says, and where that word ends.
-#[derive(Drop)]
+#[derive(Clone, Copy)]
 pub struct Counted {
     pub value: Value,
     pub at: usize,
@@ -212,7 +212,7 @@ fn due(kinds: &[u8], i: usize) -> u8 {
 }
 
 // How many words (of octets: how many octets) were taken, or that the words are not those that are due.
-#[derive(Drop)]
+#[derive(Clone, Copy)]
 pub enum Arguments {
     Taken(usize),
     Wrong,
