@@ -4,9 +4,10 @@ use crate::inner::state::State;
 use answers::PusmarkeAnswer;
 use answers::refusal::carried;
 use console_text::inner::print;
+use console_text::inner::print::Output;
 
 // The number, and as many values as a refusal of this number carries.
-pub fn show_refusal(s: State, a: PusmarkeAnswer, out: &mut [u8; 65536]) -> State {
+pub fn show_refusal(s: State, a: PusmarkeAnswer, out: &mut Output) -> State {
     let mut at = print::text(out, s.at, b"refused");
     at = print::number(out, at, a.refusal);
     let values = carried(a.refusal);

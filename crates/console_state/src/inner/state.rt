@@ -2,6 +2,7 @@
 ghost use Rattle.std.specs.Prelude.{◌≤◌, length};
 
 use c_deferred::inner::{activity_in, activity_out};
+use console_text::inner::print::Output;
 use console_text::inner::{part, print};
 use deferring::Deferred;
 use lists::inner::moves::tidy;
@@ -10,7 +11,7 @@ use octets::LargeFileFlag;
 use ranges::Width;
 use reception::Reception;
 
-#[derive(Drop)]
+#[derive(Clone, Copy)]
 pub struct State {
     // The record; how many numbers of the memory are lent as its list.
     pub rec: Reception,
@@ -82,20 +83,20 @@ pub fn with_count(s: State, count: usize) -> State {
 }
 
 // The answer ends at `at`.
-pub fn answered(s: State, out: &mut [u8; 65536], at: usize) -> State {
+pub fn answered(s: State, out: &mut Output, at: usize) -> State {
     let mut next = s;
     next.at = print::put(out, at, b'\n');
     next
 }
 
 // A word alone as the answer.
-pub fn says(s: State, out: &mut [u8; 65536], word: &[u8]) -> State {
+pub fn says(s: State, out: &mut Output, word: &[u8]) -> State {
     let at = print::text(out, s.at, word);
     answered(s, out, at)
 }
 
 // A word, and behind it the first n octets of a buffer.
-pub fn show_octets(s: State, word: &[u8], buf: &[u8], n: usize, out: &mut [u8; 65536]) -> State {
+pub fn show_octets(s: State, word: &[u8], buf: &[u8], n: usize, out: &mut Output) -> State {
     let at = print::text(out, s.at, word);
     let written = part::first_octets(buf, n);
     let end = print::hex(out, at, &buf[..written]);
@@ -103,7 +104,7 @@ pub fn show_octets(s: State, word: &[u8], buf: &[u8], n: usize, out: &mut [u8; 6
 }
 
 // A line that can't be taken.
-pub fn error(s: State, out: &mut [u8; 65536]) -> State {
+pub fn error(s: State, out: &mut Output) -> State {
     let at = print::text(out, s.at, b"error");
     let end = print::number(out, at, s.lines);
     answered(s, out, end)
@@ -133,7 +134,7 @@ pub fn without_timer(s: State) -> State {
 }
 
 // new: a fresh reception of that width with room for that many ranges, and no timer.
-pub fn new(s: State, memory: &mut [u64], narrow: u64, ranges: u64, out: &mut [u8; 65536]) -> State {
+pub fn new(s: State, memory: &mut [u64], narrow: u64, ranges: u64, out: &mut Output) -> State {
     tidy(memory, 0, memory.len() / 2);
     let mut next = with_record(without_timer(s), Reception::fresh(width_of(narrow)));
     next.length = 2 * part::at_most(ranges as usize, 4096);
@@ -150,7 +151,7 @@ pub fn edition(s: State) -> Edition {
 }
 
 // link: the edition that PDUs are written in and read by, and whether they are written with a trailer, until the next `link`.
-pub fn link(s: State, older: u64, crc: u64, out: &mut [u8; 65536]) -> State {
+pub fn link(s: State, older: u64, crc: u64, out: &mut Output) -> State {
     let mut next = s;
     next.older = older != 0;
     next.crc = crc != 0;
@@ -158,7 +159,7 @@ pub fn link(s: State, older: u64, crc: u64, out: &mut [u8; 65536]) -> State {
 }
 
 // lend: how many numbers are lent.
-pub fn lend(s: State, length: u64, out: &mut [u8; 65536]) -> State {
+pub fn lend(s: State, length: u64, out: &mut Output) -> State {
     let mut next = s;
     next.length = length as usize;
     says(next, out, b"ok")
@@ -166,7 +167,7 @@ pub fn lend(s: State, length: u64, out: &mut [u8; 65536]) -> State {
 
 // load: progress, the metadata mark, the count and the size, unchecked; `sized` is 0 where the size is not known, and then its number is
 // 0 too. The values are those of the words in order, then `sized`.
-pub fn load(s: State, values: &[u64; 8274], out: &mut [u8; 65536]) -> State {
+pub fn load(s: State, values: &[u64; 8274], out: &mut Output) -> State {
     let mut rec = s.rec;
     rec.progress = values[0];
     rec.missing = values[1] != 0;
@@ -193,7 +194,7 @@ pub fn poke(
     at: u64,
     values: &[u64],
     n: usize,
-    out: &mut [u8; 65536],
+    out: &mut Output,
 ) -> State {
     let words = part::at_most(n, values.len());
     let from = at as usize;
@@ -211,7 +212,7 @@ pub fn poke(
     says(s, out, b"ok")
 }
 
-pub fn numbers(out: &mut [u8; 65536], at: usize, list: &[u64]) -> usize {
+pub fn numbers(out: &mut Output, at: usize, list: &[u64]) -> usize {
     let mut place = at;
     let mut i = 0;
     while i < list.len() {
@@ -221,14 +222,14 @@ pub fn numbers(out: &mut [u8; 65536], at: usize, list: &[u64]) -> usize {
     place
 }
 
-pub fn show_width(out: &mut [u8; 65536], at: usize, width: Width) -> usize {
+pub fn show_width(out: &mut Output, at: usize, width: Width) -> usize {
     match width {
         Width::Wide => print::text(out, at, b"wide"),
         Width::Narrow => print::text(out, at, b"narrow"),
     }
 }
 
-pub fn show_missing(out: &mut [u8; 65536], at: usize, missing: bool) -> usize {
+pub fn show_missing(out: &mut Output, at: usize, missing: bool) -> usize {
     if missing {
         print::text(out, at, b" missing")
     } else {
@@ -236,7 +237,7 @@ pub fn show_missing(out: &mut [u8; 65536], at: usize, missing: bool) -> usize {
     }
 }
 
-pub fn show_size(out: &mut [u8; 65536], at: usize, sized: bool, size: u64) -> usize {
+pub fn show_size(out: &mut Output, at: usize, sized: bool, size: u64) -> usize {
     if sized {
         print::number(out, at, size)
     } else {
@@ -245,7 +246,7 @@ pub fn show_size(out: &mut [u8; 65536], at: usize, sized: bool, size: u64) -> us
 }
 
 // show: the state and the counted numbers.
-pub fn show(s: State, memory: &[u64], out: &mut [u8; 65536]) -> State {
+pub fn show(s: State, memory: &[u64], out: &mut Output) -> State {
     let rec = s.rec;
     let width = rec.width;
     let mut at = show_width(out, s.at, width);
@@ -260,7 +261,7 @@ pub fn show(s: State, memory: &[u64], out: &mut [u8; 65536]) -> State {
 }
 
 // slots: the first numbers of the memory.
-pub fn slots(s: State, memory: &[u64], n: u64, out: &mut [u8; 65536]) -> State {
+pub fn slots(s: State, memory: &[u64], n: u64, out: &mut Output) -> State {
     let first = part::first_numbers(memory, n as usize);
     let at = print::text(out, s.at, b"slots");
     let end = numbers(out, at, &memory[..first]);
