@@ -4,6 +4,7 @@ ghost use Rattle.std.specs.Prelude.{◌≡◌, ◌+◌, ◌*◌, ◌/◌, ◌<�
 use answers::report::of_missing_octets;
 use console_state::inner::state::State;
 use console_state::inner::{refusals, state};
+use console_text::inner::print::Output;
 use console_text::inner::words::MOST_CELLS;
 use console_text::inner::{part, print};
 use holding::held::HeldAnswer;
@@ -47,14 +48,7 @@ fn mark(rec: Reception, list: &[u64], from: u64, to: u64) -> u8 {
     b'+'
 }
 
-fn marks(
-    out: &mut [u8; 65536],
-    at: usize,
-    rec: Reception,
-    list: &[u64],
-    total: u64,
-    cells: u64,
-) -> usize
+fn marks(out: &mut Output, at: usize, rec: Reception, list: &[u64], total: u64, cells: u64) -> usize
     requires { cells ≤ 200 }
 {
     let mut place = at;
@@ -75,7 +69,7 @@ fn file_end(rec: Reception) -> u64 {
 }
 
 // The marks of a record whose checks are made. The file has no fewer octets than the picture has cells.
-pub fn draw(s: State, rec: Reception, list: &[u64], asked: u64, out: &mut [u8; 65536]) -> State {
+pub fn draw(s: State, rec: Reception, list: &[u64], asked: u64, out: &mut Output) -> State {
     let total = file_end(rec);
     let cells = smaller(smaller(asked, total), MOST_CELLS);
     let at = print::text(out, s.at, b"map ");
@@ -84,7 +78,7 @@ pub fn draw(s: State, rec: Reception, list: &[u64], asked: u64, out: &mut [u8; 6
 }
 
 // map: the checks of the record, then the marks.
-pub fn map(s: State, memory: &[u64], asked: u64, out: &mut [u8; 65536]) -> State {
+pub fn map(s: State, memory: &[u64], asked: u64, out: &mut Output) -> State {
     let lent = part::first_numbers(memory, s.length);
     let rec = s.rec;
     let a = of_missing_octets(missing_octets(rec, &memory[..lent]));

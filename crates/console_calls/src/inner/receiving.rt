@@ -2,9 +2,10 @@
 use answers::PusmarkeAnswer;
 use console_state::inner::state::State;
 use console_state::inner::{refusals, state};
+use console_text::inner::print::Output;
 use console_text::inner::{part, print};
 
-fn noticed_or_kept(out: &mut [u8; 65536], at: usize, kept: u64) -> usize {
+fn noticed_or_kept(out: &mut Output, at: usize, kept: u64) -> usize {
     if kept == 0 {
         print::text(out, at, b"noticed")
     } else {
@@ -13,25 +14,25 @@ fn noticed_or_kept(out: &mut [u8; 65536], at: usize, kept: u64) -> usize {
 }
 
 // An accepted event, its word ended at `from`: the count and progress after it.
-fn show_event(s: State, from: usize, out: &mut [u8; 65536]) -> State {
+fn show_event(s: State, from: usize, out: &mut Output) -> State {
     let rec = s.rec;
     let at = print::number(out, from, rec.count as u64);
     let end = print::number(out, at, rec.progress);
     state::answered(s, out, end)
 }
 
-pub fn show_data(s: State, kept: u64, out: &mut [u8; 65536]) -> State {
+pub fn show_data(s: State, kept: u64, out: &mut Output) -> State {
     let at = noticed_or_kept(out, s.at, kept);
     show_event(s, at, out)
 }
 
-pub fn show_ended(s: State, out: &mut [u8; 65536]) -> State {
+pub fn show_ended(s: State, out: &mut Output) -> State {
     let at = print::text(out, s.at, b"ended");
     show_event(s, at, out)
 }
 
 // What an event leaves: its answer in numbers, and the console's state.
-#[derive(Drop)]
+#[derive(Clone, Copy)]
 struct Received {
     answer: PusmarkeAnswer,
     state: State,
@@ -69,13 +70,7 @@ fn receive_data(s: State, list: &mut [u64], offset: u64, length: u64) -> Receive
     plain_data(s, list, offset, length)
 }
 
-pub fn data(
-    s: State,
-    memory: &mut [u64],
-    offset: u64,
-    length: u64,
-    out: &mut [u8; 65536],
-) -> State {
+pub fn data(s: State, memory: &mut [u64], offset: u64, length: u64, out: &mut Output) -> State {
     let lent = part::first_numbers(memory, s.length);
     let done = receive_data(s, &mut memory[..lent], offset, length);
     let a = done.answer;
@@ -118,7 +113,7 @@ fn receive_metadata(s: State, list: &[u64]) -> Received {
     plain_metadata(s, list)
 }
 
-pub fn metadata(s: State, memory: &[u64], out: &mut [u8; 65536]) -> State {
+pub fn metadata(s: State, memory: &[u64], out: &mut Output) -> State {
     let lent = part::first_numbers(memory, s.length);
     let done = receive_metadata(s, &memory[..lent]);
     let a = done.answer;
@@ -161,7 +156,7 @@ fn receive_eof(s: State, list: &mut [u64], size: u64) -> Received {
     plain_eof(s, list, size)
 }
 
-pub fn eof(s: State, memory: &mut [u64], size: u64, out: &mut [u8; 65536]) -> State {
+pub fn eof(s: State, memory: &mut [u64], size: u64, out: &mut Output) -> State {
     let lent = part::first_numbers(memory, s.length);
     let done = receive_eof(s, &mut memory[..lent], size);
     let a = done.answer;

@@ -3,9 +3,10 @@ use answers::PusmarkeAnswer;
 use answers::report::{of_held, of_missing_octets};
 use console_state::inner::state::State;
 use console_state::inner::{refusals, state};
+use console_text::inner::print::Output;
 use console_text::inner::{part, print};
 
-pub fn held(s: State, memory: &[u64], start: u64, end: u64, out: &mut [u8; 65536]) -> State {
+pub fn held(s: State, memory: &[u64], start: u64, end: u64, out: &mut Output) -> State {
     let lent = part::first_numbers(memory, s.length);
     let rec = s.rec;
     show_held(
@@ -15,7 +16,7 @@ pub fn held(s: State, memory: &[u64], start: u64, end: u64, out: &mut [u8; 65536
     )
 }
 
-pub fn show_held(s: State, a: PusmarkeAnswer, out: &mut [u8; 65536]) -> State {
+pub fn show_held(s: State, a: PusmarkeAnswer, out: &mut Output) -> State {
     if a.refusal != 0 {
         return refusals::show_refusal(s, a, out);
     }
@@ -25,7 +26,7 @@ pub fn show_held(s: State, a: PusmarkeAnswer, out: &mut [u8; 65536]) -> State {
     state::says(s, out, b"yes")
 }
 
-pub fn missing(s: State, memory: &[u64], out: &mut [u8; 65536]) -> State {
+pub fn missing(s: State, memory: &[u64], out: &mut Output) -> State {
     let lent = part::first_numbers(memory, s.length);
     let rec = s.rec;
     show_missing(
@@ -35,7 +36,7 @@ pub fn missing(s: State, memory: &[u64], out: &mut [u8; 65536]) -> State {
     )
 }
 
-pub fn show_missing(s: State, a: PusmarkeAnswer, out: &mut [u8; 65536]) -> State {
+pub fn show_missing(s: State, a: PusmarkeAnswer, out: &mut Output) -> State {
     if a.refusal != 0 {
         return refusals::show_refusal(s, a, out);
     }

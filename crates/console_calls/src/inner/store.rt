@@ -1,6 +1,7 @@
 // The store's calls.
 use console_state::inner::state::State;
 use console_state::inner::{refusals, state};
+use console_text::inner::print::Output;
 use console_text::inner::{part, print};
 use segment_store::Store;
 
@@ -14,18 +15,18 @@ fn store_of(s: State) -> Store {
 }
 
 // The end of an accepted change: the new count.
-fn counted(s: State, out: &mut [u8; 65536], at: usize, count: u64) -> State {
+fn counted(s: State, out: &mut Output, at: usize, count: u64) -> State {
     let end = print::number(out, at, count);
     state::answered(state::with_count(s, count as usize), out, end)
 }
 
 // An accepted change: a word and the new count.
-fn changed(s: State, out: &mut [u8; 65536], word: &[u8], count: u64) -> State {
+fn changed(s: State, out: &mut Output, word: &[u8], count: u64) -> State {
     let at = print::text(out, s.at, word);
     counted(s, out, at, count)
 }
 
-pub fn add(s: State, memory: &mut [u64], start: u64, end: u64, out: &mut [u8; 65536]) -> State {
+pub fn add(s: State, memory: &mut [u64], start: u64, end: u64, out: &mut Output) -> State {
     let lent = part::first_numbers(memory, s.length);
     let a = answers::store::of_add(lost_segments::add::add(
         store_of(s),
@@ -40,7 +41,7 @@ pub fn add(s: State, memory: &mut [u64], start: u64, end: u64, out: &mut [u8; 65
 }
 
 // What a removal did, by its number.
-fn removed_word(out: &mut [u8; 65536], at: usize, what: u64) -> usize {
+fn removed_word(out: &mut Output, at: usize, what: u64) -> usize {
     match what {
         0 => print::text(out, at, b"removed none"),
         1 => print::text(out, at, b"removed whole"),
@@ -50,7 +51,7 @@ fn removed_word(out: &mut [u8; 65536], at: usize, what: u64) -> usize {
     }
 }
 
-pub fn remove(s: State, memory: &mut [u64], start: u64, end: u64, out: &mut [u8; 65536]) -> State {
+pub fn remove(s: State, memory: &mut [u64], start: u64, end: u64, out: &mut Output) -> State {
     let lent = part::first_numbers(memory, s.length);
     let a = answers::store::of_remove(lost_segments::remove::remove(
         store_of(s),
@@ -69,7 +70,7 @@ pub fn remove(s: State, memory: &mut [u64], start: u64, end: u64, out: &mut [u8;
     counted(s, out, end, a.third)
 }
 
-pub fn coalesce(s: State, memory: &mut [u64], out: &mut [u8; 65536]) -> State {
+pub fn coalesce(s: State, memory: &mut [u64], out: &mut Output) -> State {
     let lent = part::first_numbers(memory, s.length);
     let a = answers::store::of_coalesce(lost_segments::coalesce::coalesce(
         store_of(s),
@@ -81,7 +82,7 @@ pub fn coalesce(s: State, memory: &mut [u64], out: &mut [u8; 65536]) -> State {
     changed(s, out, b"coalesced", a.first)
 }
 
-pub fn insert(s: State, memory: &mut [u64], start: u64, end: u64, out: &mut [u8; 65536]) -> State {
+pub fn insert(s: State, memory: &mut [u64], start: u64, end: u64, out: &mut Output) -> State {
     let lent = part::first_numbers(memory, s.length);
     let a = answers::store::of_insert(lost_segments::insert::insert(
         store_of(s),
@@ -95,7 +96,7 @@ pub fn insert(s: State, memory: &mut [u64], start: u64, end: u64, out: &mut [u8;
     changed(s, out, b"inserted", a.first)
 }
 
-pub fn within(s: State, memory: &[u64], start: u64, end: u64, out: &mut [u8; 65536]) -> State {
+pub fn within(s: State, memory: &[u64], start: u64, end: u64, out: &mut Output) -> State {
     let lent = part::first_numbers(memory, s.length);
     let a = answers::store::of_in_store(lost_segments::segment_in_store::segment_in_store(
         store_of(s),
@@ -118,7 +119,7 @@ pub fn octets(
     large: u64,
     length: u64,
     buf: &mut [u8],
-    out: &mut [u8; 65536],
+    out: &mut Output,
 ) -> State {
     let lent = part::first_numbers(memory, s.length);
     let n = part::first_octets(buf, length as usize);

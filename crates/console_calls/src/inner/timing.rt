@@ -2,6 +2,7 @@
 use answers::refusal::of_refusal;
 use console_state::inner::state::State;
 use console_state::inner::{refusals, state};
+use console_text::inner::print::Output;
 use console_text::inner::{part, print};
 use deferred::make::make;
 use deferred::reset::reset;
@@ -12,7 +13,7 @@ use deferring::tick::TickAnswer;
 use deferring::{Activity, Deferred};
 
 // defer: a new timer, to which each event goes from now on. Where it is refused, an earlier one stays.
-pub fn defer(s: State, d: u64, limit: u64, out: &mut [u8; 65536]) -> State {
+pub fn defer(s: State, d: u64, limit: u64, out: &mut Output) -> State {
     let made = make(d, limit);
     match made {
         MakeAnswer::Made(timer) => state::says(state::with_timer(s, timer), out, b"ok"),
@@ -21,7 +22,7 @@ pub fn defer(s: State, d: u64, limit: u64, out: &mut [u8; 65536]) -> State {
 }
 
 // The ticks that were made, what the last of them answered, and the timer.
-#[derive(Drop)]
+#[derive(Clone, Copy)]
 struct Ticked {
     timer: Deferred,
     made: u64,
@@ -61,7 +62,7 @@ fn is_told(answer: TickAnswer) -> bool {
     }
 }
 
-fn show_answer(out: &mut [u8; 65536], at: usize, answer: TickAnswer) -> usize {
+fn show_answer(out: &mut Output, at: usize, answer: TickAnswer) -> usize {
     match answer {
         TickAnswer::Quiet => print::text(out, at, b"quiet"),
         TickAnswer::Ask => print::text(out, at, b"ask"),
@@ -69,7 +70,7 @@ fn show_answer(out: &mut [u8; 65536], at: usize, answer: TickAnswer) -> usize {
     }
 }
 
-pub fn ticks(s: State, n: u64, out: &mut [u8; 65536]) -> State {
+pub fn ticks(s: State, n: u64, out: &mut Output) -> State {
     if !state::is_timed(s) {
         return state::error(s, out);
     }
@@ -82,7 +83,7 @@ pub fn ticks(s: State, n: u64, out: &mut [u8; 65536]) -> State {
     state::answered(state::with_timer(s, after), out, end)
 }
 
-pub fn restart(s: State, memory: &[u64], out: &mut [u8; 65536]) -> State {
+pub fn restart(s: State, memory: &[u64], out: &mut Output) -> State {
     if !state::is_timed(s) {
         return state::error(s, out);
     }
@@ -98,7 +99,7 @@ pub fn restart(s: State, memory: &[u64], out: &mut [u8; 65536]) -> State {
     }
 }
 
-fn show_activity(out: &mut [u8; 65536], at: usize, activity: Activity) -> usize {
+fn show_activity(out: &mut Output, at: usize, activity: Activity) -> usize {
     match activity {
         Activity::Idle => print::text(out, at, b"timer idle"),
         Activity::Active => print::text(out, at, b"timer active"),
@@ -106,7 +107,7 @@ fn show_activity(out: &mut [u8; 65536], at: usize, activity: Activity) -> usize 
     }
 }
 
-pub fn show(s: State, out: &mut [u8; 65536]) -> State {
+pub fn show(s: State, out: &mut Output) -> State {
     if !state::is_timed(s) {
         return state::error(s, out);
     }
