@@ -4,6 +4,7 @@ ghost use Rattle.std.specs.Prelude.{◌≤◌, length};
 use answers::PusmarkeAnswer;
 use console_state::inner::state::State;
 use console_state::inner::{refusals, state};
+use console_text::inner::print::Output;
 use console_text::inner::{part, print};
 use nak::{Edition, Form, Identity};
 use nak_parsing::Step;
@@ -35,7 +36,7 @@ fn write_requests(
     values: &[u64; 8274],
     requests: &[u64],
     buf: &mut [u8],
-    out: &mut [u8; 65536],
+    out: &mut Output,
 ) -> State {
     let size = part::first_octets(buf, values[8] as usize);
     let a = answers::pdu::of_write(nak_writer::write(
@@ -58,7 +59,7 @@ pub fn write(
     words: &[u64],
     n: usize,
     buf: &mut [u8],
-    out: &mut [u8; 65536],
+    out: &mut Output,
 ) -> State {
     let to = part::at_most(n, words.len());
     if to < 9 {
@@ -67,14 +68,14 @@ pub fn write(
     write_requests(s, values, &words[9..to], buf, out)
 }
 
-fn show_flag(out: &mut [u8; 65536], at: usize, flag: LargeFileFlag) -> usize {
+fn show_flag(out: &mut Output, at: usize, flag: LargeFileFlag) -> usize {
     match flag {
         LargeFileFlag::Normal => print::text(out, at, b" normal"),
         LargeFileFlag::Large => print::text(out, at, b" large"),
     }
 }
 
-fn show_trailer(out: &mut [u8; 65536], at: usize, crc: bool) -> usize {
+fn show_trailer(out: &mut Output, at: usize, crc: bool) -> usize {
     if crc {
         print::text(out, at, b" crc")
     } else {
@@ -88,13 +89,7 @@ fn steps_of(part: &[u8], form: Form) -> usize {
 }
 
 // Steps the reader from a place to its end.
-fn show_requests(
-    out: &mut [u8; 65536],
-    at: usize,
-    packet: &[u8],
-    from: usize,
-    steps: usize,
-) -> usize {
+fn show_requests(out: &mut Output, at: usize, packet: &[u8], from: usize, steps: usize) -> usize {
     let mut printed = at;
     let mut next = from;
     let mut left = steps;
@@ -112,7 +107,7 @@ fn show_requests(
     printed
 }
 
-fn read_packet(s: State, packet: &[u8], out: &mut [u8; 65536]) -> State {
+fn read_packet(s: State, packet: &[u8], out: &mut Output) -> State {
     let edition = state::edition(s);
     let parsed = nak_reader::read_fields(packet, edition);
     if parsed.refusal != 0 {
@@ -137,7 +132,7 @@ fn read_packet(s: State, packet: &[u8], out: &mut [u8; 65536]) -> State {
     state::answered(s, out, at)
 }
 
-pub fn read(s: State, buf: &[u8], n: usize, out: &mut [u8; 65536]) -> State {
+pub fn read(s: State, buf: &[u8], n: usize, out: &mut Output) -> State {
     let size = part::first_octets(buf, n);
     read_packet(s, &buf[..size], out)
 }
@@ -156,7 +151,7 @@ fn pdu_length(octets: &[u8], edition: Edition) -> usize
 }
 
 // A line for each PDU.
-fn show_pdus(s: State, octets: &[u8], pdus: u64, out: &mut [u8; 65536]) -> State {
+fn show_pdus(s: State, octets: &[u8], pdus: u64, out: &mut Output) -> State {
     let edition = state::edition(s);
     let mut next = s;
     let mut at = 0;
@@ -173,7 +168,7 @@ fn show_pdus(s: State, octets: &[u8], pdus: u64, out: &mut [u8; 65536]) -> State
 }
 
 // The PDUs, and then how many there are, their octets and the new cursor.
-pub fn show_sent(s: State, octets: &[u8], a: PusmarkeAnswer, out: &mut [u8; 65536]) -> State {
+pub fn show_sent(s: State, octets: &[u8], a: PusmarkeAnswer, out: &mut Output) -> State {
     let next = show_pdus(s, octets, a.first, out);
     let mut at = print::text(out, next.at, b"sent");
     at = print::number(out, at, a.first);
@@ -187,7 +182,7 @@ pub fn sequence(
     memory: &[u64],
     values: &[u64; 8274],
     buf: &mut [u8],
-    out: &mut [u8; 65536],
+    out: &mut Output,
 ) -> State {
     let lent = part::first_numbers(memory, s.length);
     let size = part::first_octets(buf, values[9] as usize);
