@@ -10,6 +10,7 @@ use console_calls::inner::{map, receiving, reports};
 use console_pdus::inner::pdus;
 use console_state::inner::state::State;
 use console_state::inner::{refusals, state};
+use console_text::inner::print::Output;
 use console_text::inner::{part, print};
 use lists::inner::moves::tidy;
 use pool::data::pool_data_core;
@@ -27,7 +28,7 @@ pub fn pool(
     memory: &mut [u64],
     values: &mut [u64; 8274],
     n: usize,
-    out: &mut [u8; 65536],
+    out: &mut Output,
 ) -> State {
     tidy(memory, 0, memory.len() / 2);
     let mut next = state::without_timer(s);
@@ -51,7 +52,7 @@ pub fn data(
     memory: &mut [u64],
     values: &mut [u64; 8274],
     i: usize,
-    out: &mut [u8; 65536],
+    out: &mut Output,
 ) -> State {
     let lent = part::first_numbers(memory, s.length);
     let pool = kept::pool_of(values);
@@ -70,7 +71,7 @@ pub fn metadata(
     memory: &[u64],
     values: &mut [u64; 8274],
     i: usize,
-    out: &mut [u8; 65536],
+    out: &mut Output,
 ) -> State {
     let lent = part::first_numbers(memory, s.length);
     let pool = kept::pool_of(values);
@@ -89,7 +90,7 @@ pub fn eof(
     memory: &mut [u64],
     values: &mut [u64; 8274],
     i: usize,
-    out: &mut [u8; 65536],
+    out: &mut Output,
 ) -> State {
     let lent = part::first_numbers(memory, s.length);
     let pool = kept::pool_of(values);
@@ -103,13 +104,7 @@ pub fn eof(
     receiving::show_ended(keep(s, values, after, i), out)
 }
 
-pub fn held(
-    s: State,
-    memory: &[u64],
-    values: &[u64; 8274],
-    i: usize,
-    out: &mut [u8; 65536],
-) -> State {
+pub fn held(s: State, memory: &[u64], values: &[u64; 8274], i: usize, out: &mut Output) -> State {
     let lent = part::first_numbers(memory, s.length);
     let pool = kept::pool_of(values);
     let a = of_held(pool_held(pool, &memory[..lent], i, values[0], values[1]));
@@ -127,19 +122,13 @@ pub fn missing(
     memory: &[u64],
     values: &[u64; 8274],
     i: usize,
-    out: &mut [u8; 65536],
+    out: &mut Output,
 ) -> State {
     reports::show_missing(s, missing_in(s, memory, values, i), out)
 }
 
 // map: the checks of the pool and the record, then the marks.
-pub fn draw(
-    s: State,
-    memory: &[u64],
-    values: &[u64; 8274],
-    i: usize,
-    out: &mut [u8; 65536],
-) -> State {
+pub fn draw(s: State, memory: &[u64], values: &[u64; 8274], i: usize, out: &mut Output) -> State {
     let a = missing_in(s, memory, values, i);
     if a.refusal != 0 {
         return refusals::show_refusal(s, a, out);
@@ -161,7 +150,7 @@ pub fn sequence(
     values: &[u64; 8274],
     i: usize,
     buf: &mut [u8],
-    out: &mut [u8; 65536],
+    out: &mut Output,
 ) -> State {
     let lent = part::first_numbers(memory, s.length);
     let size = part::first_octets(buf, values[9] as usize);
@@ -185,7 +174,7 @@ pub fn sequence(
 }
 
 // load: as for one reception, its width as it is.
-pub fn load(s: State, values: &mut [u64; 8274], i: usize, out: &mut [u8; 65536]) -> State {
+pub fn load(s: State, values: &mut [u64; 8274], i: usize, out: &mut Output) -> State {
     if !kept::is_kept(values, i) {
         return state::error(s, out);
     }
@@ -208,7 +197,7 @@ fn show_ranges(
     values: &[u64; 8274],
     i: usize,
     count: usize,
-    out: &mut [u8; 65536],
+    out: &mut Output,
     at: usize,
 ) -> usize
     requires { i < 8 }
@@ -221,13 +210,7 @@ fn show_ranges(
 }
 
 // show: the transfer and its numbers in the pool's list.
-pub fn show(
-    s: State,
-    memory: &[u64],
-    values: &[u64; 8274],
-    i: usize,
-    out: &mut [u8; 65536],
-) -> State {
+pub fn show(s: State, memory: &[u64], values: &[u64; 8274], i: usize, out: &mut Output) -> State {
     if !kept::is_kept(values, i) {
         return state::error(s, out);
     }
