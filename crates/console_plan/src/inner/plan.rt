@@ -1,12 +1,13 @@
 // plan: mission planning's PDUs, checked against the record.
 ghost use Rattle.std.specs.Prelude.{◌+◌, ◌≤◌, length};
-ghost use Rattle.io.specs.Counts.{IsPrefixLen};
+ghost use Rattle.console_text.specs.Counts.{IsPrefixLen};
 
 use answers::PusmarkeAnswer;
 use answers::plan::of_plan;
 use console_pdus::inner::pdus;
 use console_state::inner::state::State;
 use console_state::inner::{refusals, state};
+use console_text::inner::print::Output;
 use console_text::inner::words::{Arguments, Value};
 use console_text::inner::{part, words};
 use nak::Identity;
@@ -25,7 +26,7 @@ const ANY: u64 = 18446744073709551615;
 const WORDS: usize = 8209;
 
 // Whether all numbers were there, and where the last of them ends.
-#[derive(Drop)]
+#[derive(Clone, Copy)]
 pub struct Numbers {
     fine: bool,
     at: usize,
@@ -133,7 +134,7 @@ pub fn plan(
     values: &mut [u64; 8274],
     buf: &[u8],
     n: usize,
-    out: &mut [u8; 65536],
+    out: &mut Output,
 ) -> State {
     let identity = pdus::identity_of(values);
     let pdus = part::at_most(values[PDUS] as usize, MOST_PDUS);
