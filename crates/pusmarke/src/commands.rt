@@ -7,10 +7,11 @@ use console_plan::inner::plan;
 use console_pool::inner::{kept, transfers};
 use console_state::inner::state;
 use console_state::inner::state::State;
+use console_text::inner::print::Output;
 use console_text::inner::words::{Arguments, Value};
 use console_text::inner::{part, words};
 
-#[derive(Drop)]
+#[derive(Clone, Copy)]
 pub enum Command {
     New,
     Pool,
@@ -229,12 +230,7 @@ fn arguments(
 }
 
 // new takes a pool away.
-fn start_anew(
-    s: State,
-    memory: &mut [u64],
-    values: &mut [u64; 8274],
-    out: &mut [u8; 65536],
-) -> State {
+fn start_anew(s: State, memory: &mut [u64], values: &mut [u64; 8274], out: &mut Output) -> State {
     kept::without_pool(values);
     state::new(s, memory, values[0], values[1], out)
 }
@@ -247,7 +243,7 @@ fn answer(
     memory: &mut [u64],
     values: &[u64; 8274],
     buf: &mut [u8],
-    out: &mut [u8; 65536],
+    out: &mut Output,
 ) -> State {
     match command {
         Command::Link => state::link(s, values[0], values[1], out),
@@ -287,7 +283,7 @@ fn answer_any(
     memory: &mut [u64],
     values: &mut [u64; 8274],
     buf: &mut [u8],
-    out: &mut [u8; 65536],
+    out: &mut Output,
 ) -> State {
     match command {
         Command::New => start_anew(s, memory, values, out),
@@ -328,7 +324,7 @@ fn answer_for(
     memory: &mut [u64],
     values: &mut [u64; 8274],
     buf: &mut [u8],
-    out: &mut [u8; 65536],
+    out: &mut Output,
 ) -> State {
     match command {
         Command::Data => transfers::data(s, memory, values, i, out),
@@ -352,7 +348,7 @@ fn run_for(
     memory: &mut [u64],
     values: &mut [u64; 8274],
     buf: &mut [u8],
-    out: &mut [u8; 65536],
+    out: &mut Output,
 ) -> State
     requires { from ≤ length line.now }
 {
@@ -381,7 +377,7 @@ fn run(
     memory: &mut [u64],
     values: &mut [u64; 8274],
     buf: &mut [u8],
-    out: &mut [u8; 65536],
+    out: &mut Output,
 ) -> State {
     if line.len() == 0 {
         return s;
@@ -416,7 +412,7 @@ pub fn end_line(
     memory: &mut [u64],
     values: &mut [u64; 8274],
     buf: &mut [u8],
-    out: &mut [u8; 65536],
+    out: &mut Output,
 ) -> State {
     let mut next = s;
     next.lines = std::num::wrapping_add_u64(s.lines, 1);
