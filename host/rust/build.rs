@@ -1,4 +1,4 @@
-//! Links the archive that `rt staticlib pusmarke_c` writes, from PUSMARKE_LIB_DIR or from the project's target folder.
+//! Links the archive that `tools/archive` writes, from PUSMARKE_LIB_DIR or from the project's target folder.
 use std::{env, path::PathBuf};
 
 fn main() {
