@@ -1,2 +1,1 @@
-pub mod Both
 pub mod Meaning

@@ -1,11 +1,10 @@
 -- What the calls of the deferred NAK procedure hand back to C.
-use Rattle.std.specs.Prelude.{ℕ, [], ◌∷◌}
+use Rattle.std.specs.Prelude.{ℕ, [], ◌∷◌, Result, Ok, Err}
 use Rattle.outcomes.specs.Outcome.{Outcome, accepted}
 use Rattle.outcomes.specs.Refusal.{refusing}
+use Rattle.outcomes.specs.declared.Refusal.{Refusal}
 use Rattle.answers.specs.Answer.{answer_of}
 use Rattle.deferring.specs.declared.Deferred.{Deferred}
-use Rattle.deferring.specs.declared.make.MakeAnswer.{MakeAnswer}
-use Rattle.deferring.specs.declared.make.MakeAnswer.TheVariants as making
 use Rattle.deferring.specs.declared.tick.TickAnswer.{TickAnswer}
 use Rattle.deferring.specs.declared.tick.TickAnswer.TheVariants as ticking
 use Rattle.deferring.specs.declared.tick.TickDone.{TickDone}
@@ -18,9 +17,9 @@ abbrev pub heard_out : Outcome → PusmarkeDeferred → PusmarkeHeard
 heard_out o t = record { answer = answer_of o; timer = t }
 
 -- Of make: the timer, or the refusal and no timer.
-abbrev pub made_out : MakeAnswer → PusmarkeHeard
-made_out (making.Made t) = heard_out (accepted []) (timer_out t)
-made_out (making.Refused r) = heard_out (refusing r) no_timer
+abbrev pub made_out : Result Deferred Refusal → PusmarkeHeard
+made_out (Ok t) = heard_out (accepted []) (timer_out t)
+made_out (Err r) = heard_out (refusing r) no_timer
 
 -- Of a tick: 0 where it is quiet, 1 where it asks, 2 where it reports the limit.
 abbrev pub tick_number : TickAnswer → ℕ

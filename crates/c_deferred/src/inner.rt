@@ -8,13 +8,11 @@ use deferring::{Activity, Deferred};
 pub fn activity_in(activity: u64) -> Activity
     ensures { result ≡ activity_in activity }
 {
-    if activity == 0 {
-        return Activity::Idle;
+    match activity {
+        0 => Activity::Idle,
+        1 => Activity::Active,
+        _ => Activity::Deaf,
     }
-    if activity == 1 {
-        return Activity::Active;
-    }
-    Activity::Deaf
 }
 
 pub fn activity_out(activity: Activity) -> u64
@@ -27,28 +25,30 @@ pub fn activity_out(activity: Activity) -> u64
     }
 }
 
-pub fn timer_in(timer: PusmarkeDeferred) -> Deferred
-    ensures { result ≡ timer_in timer }
-{
-    let activity = activity_in(timer.activity);
-    Deferred {
-        period: timer.period,
-        limit: timer.limit,
-        activity,
-        left: timer.left,
-        counter: timer.counter,
+impl From<PusmarkeDeferred> for Deferred {
+    ghost from_gives = { λ c timer. timer ≡ timer_in c };
+
+    fn from(timer: PusmarkeDeferred) -> Deferred {
+        Deferred {
+            period: timer.period,
+            limit: timer.limit,
+            activity: activity_in(timer.activity),
+            left: timer.left,
+            counter: timer.counter,
+        }
     }
 }
 
-pub fn timer_out(own: Deferred) -> PusmarkeDeferred
-    ensures { result ≡ timer_out own }
-{
-    let activity = own.activity;
-    PusmarkeDeferred {
-        period: own.period,
-        limit: own.limit,
-        activity: activity_out(activity),
-        left: own.left,
-        counter: own.counter,
+impl From<Deferred> for PusmarkeDeferred {
+    ghost from_gives = { λ timer c. c ≡ timer_out timer };
+
+    fn from(own: Deferred) -> PusmarkeDeferred {
+        PusmarkeDeferred {
+            period: own.period,
+            limit: own.limit,
+            activity: activity_out(own.activity),
+            left: own.left,
+            counter: own.counter,
+        }
     }
 }

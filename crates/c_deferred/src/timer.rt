@@ -1,46 +1,42 @@
 // make, tick and reset on C's timer.
-ghost use Rattle.std.specs.Prelude.{◌≡◌, [], ◌∷◌};
-ghost use Rattle.outcomes.specs.Outcome.{accepted};
-ghost use Rattle.answers.specs.Answer.{answer_of};
+ghost use Rattle.std.specs.Prelude.{◌≡◌};
 ghost use Rattle.deferring.specs.Make.{made};
 ghost use Rattle.deferring.specs.Tick.{ticked};
-ghost use Rattle.deferring.specs.Reset.{reset_case, reset_outcome, reset_timer};
+ghost use Rattle.deferring.specs.Reset.{reset_outcome, reset_timer};
 ghost use Rattle.c_values.specs.Input.{record_in};
 ghost use Rattle.c_deferred.specs.Timer.{timer_in, timer_out};
 ghost use Rattle.c_deferred.specs.Heard.{heard_out, made_out, tick_number, tick_out};
 
-use crate::inner::{timer_in, timer_out};
 use crate::{PusmarkeDeferred, PusmarkeHeard};
 use answers::PusmarkeAnswer;
-use answers::inner::{bare, with_one};
-use answers::refusal::of_refusal;
 use c_values::PusmarkeReception;
-use c_values::inner::record_in;
 use deferred::make::make;
 use deferred::reset::reset;
 use deferred::tick::tick;
-use deferring::make::MakeAnswer;
-use deferring::reset::ResetAnswer;
+use deferring::Deferred;
 use deferring::tick::TickAnswer;
+use reception::Reception;
+
+// Where none was made.
+const NO_TIMER: PusmarkeDeferred = PusmarkeDeferred {
+    period: 0,
+    limit: 0,
+    activity: 0,
+    left: 0,
+    counter: 0,
+};
 
 pub fn make_out(d: u64, limit: u64) -> PusmarkeHeard
     ensures { result ≡ made_out (made d limit) }
 {
-    let found = make(d, limit);
-    match found {
-        MakeAnswer::Made(t) => PusmarkeHeard {
-            answer: bare(0),
-            timer: timer_out(t),
+    match make(d, limit) {
+        Ok(timer) => PusmarkeHeard {
+            answer: PusmarkeAnswer::accepted(0, 0, 0),
+            timer: PusmarkeDeferred::from(timer),
         },
-        MakeAnswer::Refused(r) => PusmarkeHeard {
-            answer: of_refusal(r),
-            timer: PusmarkeDeferred {
-                period: 0,
-                limit: 0,
-                activity: 0,
-                left: 0,
-                counter: 0,
-            },
+        Err(r) => PusmarkeHeard {
+            answer: PusmarkeAnswer::from(r),
+            timer: NO_TIMER,
         },
     }
 }
@@ -58,23 +54,10 @@ fn tick_number(answer: TickAnswer) -> u64
 pub fn tick_out(timer: PusmarkeDeferred) -> PusmarkeHeard
     ensures { result ≡ tick_out (ticked (timer_in timer)) }
 {
-    let own = timer_in(timer);
-    let done = tick(own);
-    let case = done.answer;
-    let after = done.timer;
-    let number = tick_number(case);
+    let done = tick(Deferred::from(timer));
     PusmarkeHeard {
-        answer: with_one(0, number),
-        timer: timer_out(after),
-    }
-}
-
-fn of_reset(answer: ResetAnswer) -> PusmarkeAnswer
-    ensures { result ≡ answer_of (reset_case answer) }
-{
-    match answer {
-        ResetAnswer::Restarted => bare(0),
-        ResetAnswer::Refused(r) => of_refusal(r),
+        answer: PusmarkeAnswer::accepted(tick_number(done.answer), 0, 0),
+        timer: PusmarkeDeferred::from(done.timer),
     }
 }
 
@@ -82,14 +65,6 @@ fn of_reset(answer: ResetAnswer) -> PusmarkeAnswer
 pub fn reset_out(timer: PusmarkeDeferred, rec: PusmarkeReception, list: &[u64]) -> PusmarkeHeard
     ensures { result ≡ heard_out (reset_outcome (record_in rec) list.now) (timer_out (reset_timer (timer_in timer) (record_in rec) list.now)) }
 {
-    let own = timer_in(timer);
-    let whole = record_in(rec);
-    let done = reset(own, whole, list);
-    let case = done.answer;
-    let anew = done.timer;
-    let answer = of_reset(case);
-    PusmarkeHeard {
-        answer,
-        timer: timer_out(anew),
-    }
+    let done = reset(Deferred::from(timer), Reception::from(rec), list);
+    PusmarkeHeard::from(done)
 }

@@ -10,15 +10,13 @@ ghost use Rattle.c_values.specs.Output.{advanced_to, marked_by, ended_by};
 ghost use Rattle.c_deferred.specs.Timer.{timer_in, timer_out};
 ghost use Rattle.c_deferred.specs.Heard.{heard_out};
 
-use crate::inner::{timer_in, timer_out};
 use crate::{HeardOut, PusmarkeDeferred, PusmarkeHeard};
-use answers::events::{of_data, of_eof, of_metadata};
 use c_values::PusmarkeReception;
-use c_values::inner::record_in;
-use c_values::record_events::{mark_after, sized_after};
 use deferred::data::deferred_data_core;
 use deferred::eof::deferred_eof_core;
 use deferred::metadata::deferred_metadata_core;
+use deferring::Deferred;
+use reception::Reception;
 
 pub fn data_whole(
     rec: PusmarkeReception,
@@ -32,23 +30,11 @@ pub fn data_whole(
         × ((result.rec ≡ advanced_to (data_record (record_in rec) list.old offset length) rec)
         × (list.new ≡ data_list (record_in rec) list.old offset length)) }
 {
-    let own = record_in(rec);
-    let watch = timer_in(timer);
-    let done = deferred_data_core(watch, own, list, offset, length);
-    let told = done.heard;
-    let case = told.answer;
-    let answer = of_data(case);
-    let next = told.timer;
-    let after = done.rec;
-    let mut left = rec;
-    left.progress = after.progress;
-    left.count = after.count;
+    let own = Deferred::from(timer);
+    let done = deferred_data_core(own, Reception::from(rec), list, offset, length);
     HeardOut {
-        heard: PusmarkeHeard {
-            answer,
-            timer: timer_out(next),
-        },
-        rec: left,
+        heard: PusmarkeHeard::from(done.heard),
+        rec: rec.advanced_to(done.rec),
     }
 }
 
@@ -57,22 +43,10 @@ pub fn metadata_whole(rec: PusmarkeReception, list: &[u64], timer: PusmarkeDefer
     ensures { (result.heard ≡ heard_out (metadata_outcome (record_in rec) list.now) (timer_out (heard (timer_in timer) (state_of (record_in rec) list.now) Metadata)))
         × (result.rec ≡ marked_by (metadata_record (record_in rec) list.now) rec) }
 {
-    let own = record_in(rec);
-    let watch = timer_in(timer);
-    let done = deferred_metadata_core(watch, own, list);
-    let told = done.heard;
-    let case = told.answer;
-    let answer = of_metadata(case);
-    let later = told.timer;
-    let after = done.rec;
-    let mut left = rec;
-    left.missing = mark_after(rec.missing, after.missing);
+    let known = deferred_metadata_core(Deferred::from(timer), Reception::from(rec), list);
     HeardOut {
-        heard: PusmarkeHeard {
-            answer,
-            timer: timer_out(later),
-        },
-        rec: left,
+        heard: PusmarkeHeard::from(known.heard),
+        rec: rec.marked_by(known.rec),
     }
 }
 
@@ -86,24 +60,9 @@ pub fn eof_whole(
         × ((result.rec ≡ ended_by (eof_outcome (record_in rec) list.old size) (eof_record (record_in rec) list.old size) rec)
         × (list.new ≡ eof_list (record_in rec) list.old size)) }
 {
-    let own = record_in(rec);
-    let watch = timer_in(timer);
-    let done = deferred_eof_core(watch, own, list, size);
-    let told = done.heard;
-    let case = told.answer;
-    let answer = of_eof(case);
-    let last = told.timer;
-    let ended = done.rec;
-    let mut left = rec;
-    left.progress = ended.progress;
-    left.count = ended.count;
-    left.size = ended.size;
-    left.sized = sized_after(answer.refusal, rec.sized);
+    let ended = deferred_eof_core(Deferred::from(timer), Reception::from(rec), list, size);
     HeardOut {
-        heard: PusmarkeHeard {
-            answer,
-            timer: timer_out(last),
-        },
-        rec: left,
+        heard: PusmarkeHeard::from(ended.heard),
+        rec: rec.ended_by(ended.heard.answer, ended.rec),
     }
 }

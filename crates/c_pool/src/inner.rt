@@ -6,25 +6,28 @@ ghost use Rattle.c_pool.specs.Output.{with_record};
 
 use crate::PusmarkePool;
 use c_values::PusmarkeReception;
-use c_values::inner::record_in;
 use pooling::Pool;
+use reception::Reception;
 
-pub fn pool_in(pool: PusmarkePool) -> Pool
-    ensures { result ≡ pool_in pool }
-{
-    let a = record_in(pool.records[0]);
-    let b = record_in(pool.records[1]);
-    let c = record_in(pool.records[2]);
-    let d = record_in(pool.records[3]);
-    let e = record_in(pool.records[4]);
-    let f = record_in(pool.records[5]);
-    let g = record_in(pool.records[6]);
-    let h = record_in(pool.records[7]);
-    Pool {
-        used: pool.used,
-        records: [a, b, c, d, e, f, g, h],
-        floors: pool.floors,
-        limits: pool.limits,
+impl From<PusmarkePool> for Pool {
+    ghost from_gives = { λ c pool. pool ≡ pool_in c };
+
+    fn from(pool: PusmarkePool) -> Pool {
+        // One by one: of `map` it was not proved that each place holds what the function makes of it.
+        let a = Reception::from(pool.records[0]);
+        let b = Reception::from(pool.records[1]);
+        let c = Reception::from(pool.records[2]);
+        let d = Reception::from(pool.records[3]);
+        let e = Reception::from(pool.records[4]);
+        let f = Reception::from(pool.records[5]);
+        let g = Reception::from(pool.records[6]);
+        let h = Reception::from(pool.records[7]);
+        Pool {
+            used: pool.used,
+            records: [a, b, c, d, e, f, g, h],
+            floors: pool.floors,
+            limits: pool.limits,
+        }
     }
 }
 

@@ -4,8 +4,6 @@ ghost use Rattle.c_pool.specs.Output.{empty_pool, added};
 
 use crate::PusmarkePool;
 use c_values::PusmarkeReception;
-use c_values::inner::{mark_of, width_in};
-use reception::Reception;
 
 pub fn empty_pool() -> PusmarkePool
     ensures { result ≡ empty_pool }
@@ -20,9 +18,9 @@ pub fn empty_pool() -> PusmarkePool
     };
     PusmarkePool {
         used: 0,
-        records: [none, none, none, none, none, none, none, none],
-        floors: [0, 0, 0, 0, 0, 0, 0, 0],
-        limits: [0, 0, 0, 0, 0, 0, 0, 0],
+        records: [none; 8],
+        floors: [0; 8],
+        limits: [0; 8],
     }
 }
 
@@ -32,15 +30,7 @@ pub fn one_more(pool: PusmarkePool, narrow: u64, floor: usize, limit: usize) -> 
 {
     let mut next = pool;
     if pool.used < 8 {
-        let fresh = Reception::fresh(width_in(narrow));
-        let rec = PusmarkeReception {
-            progress: fresh.progress,
-            count: fresh.count,
-            narrow,
-            missing: mark_of(fresh.missing),
-            sized: mark_of(fresh.sized),
-            size: fresh.size,
-        };
+        let rec = PusmarkeReception::fresh(narrow);
         let at = pool.used;
         next.used = at + 1;
         next.records[at] = rec;

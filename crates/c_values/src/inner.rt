@@ -19,7 +19,7 @@ pub fn is_set(mark: u64) -> bool
 pub fn mark_of(on: bool) -> u64
     ensures { result ≡ mark_of on }
 {
-    if on { 1 } else { 0 }
+    u64::from(on)
 }
 
 pub fn width_in(narrow: u64) -> Width
@@ -52,13 +52,16 @@ pub fn edition_in(older: u64) -> Edition
     }
 }
 
-pub fn form_in(form: PusmarkeForm) -> Form
-    ensures { result ≡ form_in form }
-{
-    let edition = edition_in(form.older);
-    let flag = flag_in(form.large);
-    let crc = is_set(form.crc);
-    Form { edition, flag, crc }
+impl From<PusmarkeForm> for Form {
+    ghost from_gives = { λ c form. form ≡ form_in c };
+
+    fn from(form: PusmarkeForm) -> Form {
+        Form {
+            edition: edition_in(form.older),
+            flag: flag_in(form.large),
+            crc: is_set(form.crc),
+        }
+    }
 }
 
 pub fn store_of(count: usize, narrow: u64) -> Store
@@ -70,27 +73,31 @@ pub fn store_of(count: usize, narrow: u64) -> Store
     }
 }
 
-pub fn record_in(rec: PusmarkeReception) -> Reception
-    ensures { result ≡ record_in rec }
-{
-    Reception {
-        progress: rec.progress,
-        count: rec.count,
-        width: width_in(rec.narrow),
-        missing: is_set(rec.missing),
-        sized: is_set(rec.sized),
-        size: rec.size,
+impl From<PusmarkeReception> for Reception {
+    ghost from_gives = { λ c rec. rec ≡ record_in c };
+
+    fn from(rec: PusmarkeReception) -> Reception {
+        Reception {
+            progress: rec.progress,
+            count: rec.count,
+            width: width_in(rec.narrow),
+            missing: is_set(rec.missing),
+            sized: is_set(rec.sized),
+            size: rec.size,
+        }
     }
 }
 
-pub fn identity_in(identity: PusmarkeIdentity) -> Identity
-    ensures { result ≡ identity_in identity }
-{
-    Identity {
-        entity_length: identity.entity_length,
-        number_length: identity.number_length,
-        source: identity.source,
-        number: identity.number,
-        destination: identity.destination,
+impl From<PusmarkeIdentity> for Identity {
+    ghost from_gives = { λ c identity. identity ≡ identity_in c };
+
+    fn from(identity: PusmarkeIdentity) -> Identity {
+        Identity {
+            entity_length: identity.entity_length,
+            number_length: identity.number_length,
+            source: identity.source,
+            number: identity.number,
+            destination: identity.destination,
+        }
     }
 }

@@ -5,7 +5,6 @@ ghost use Rattle.c_values.specs.Output.{flag_out, identity_out, step_out};
 
 use crate::{PusmarkeIdentity, PusmarkeStep};
 use nak::Identity;
-use nak_parsing::Step;
 use octets::LargeFileFlag;
 
 pub fn flag_out(flag: LargeFileFlag) -> u64
@@ -17,29 +16,31 @@ pub fn flag_out(flag: LargeFileFlag) -> u64
     }
 }
 
-pub fn identity_out(identity: Identity) -> PusmarkeIdentity
-    ensures { result ≡ identity_out identity }
-{
-    PusmarkeIdentity {
-        entity_length: identity.entity_length,
-        number_length: identity.number_length,
-        source: identity.source,
-        number: identity.number,
-        destination: identity.destination,
+impl From<Identity> for PusmarkeIdentity {
+    ghost from_gives = { λ identity c. c ≡ identity_out identity };
+
+    fn from(identity: Identity) -> PusmarkeIdentity {
+        PusmarkeIdentity {
+            entity_length: identity.entity_length,
+            number_length: identity.number_length,
+            source: identity.source,
+            number: identity.number,
+            destination: identity.destination,
+        }
     }
 }
 
-pub fn step_out(step: Step, at: usize) -> PusmarkeStep
+pub fn step_out(step: Option<(u64, u64)>, at: usize) -> PusmarkeStep
     ensures { result ≡ step_out (step_case step) at }
 {
     match step {
-        Step::Request(start, end) => PusmarkeStep {
+        Some((start, end)) => PusmarkeStep {
             found: 1,
             start,
             end,
             at,
         },
-        Step::End => PusmarkeStep {
+        None => PusmarkeStep {
             found: 0,
             start: 0,
             end: 0,

@@ -15,7 +15,8 @@ use Rattle.holding.specs.Whole.{AllWhole, NoneRefused}
 use Rattle.holding.proofs.Histories.{filled}
 use Rattle.holding.proofs.Whole.{whole-taken}
 use Rattle.sequence.specs.Entries.{rounded_up}
-use Rattle.sequence.specs.Sequence.{Order, Allowed, asked}
+use Rattle.sequence.specs.Sequence.{Allowed, asked}
+use Rattle.sequence.specs.declared.Order.{Order}
 use Rattle.sequence.specs.Calls.{Call, AllFit, octets_by, budgets}
 use Rattle.sequence.specs.Parted.{parted, requests_read}
 use Rattle.sequence.proofs.Named.{requests, names-missing}

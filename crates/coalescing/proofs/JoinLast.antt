@@ -80,23 +80,13 @@ unchanged xs m s e h j = rw j (sym (length-counted xs m h), sym (stored_same xs 
 pub put-none : (xs : List ℕ) (m s e : ℕ) → 2 * m ≤ length xs → e ≤ s → Put xs m s e m xs
 put-none xs m s e h k = unchanged xs m s e h (join-none s e (counted xs m) k)
 
-pub put-within : (xs : List ℕ) (m p s e : ℕ) → m ≡ suc p → 2 * m ≤ length xs → s < e → Coalesced (counted xs m) → Low s (counted xs m)
-    → s ≤ get_or xs (2 * p + 1) 0 → e ≤ get_or xs (2 * p + 1) 0 → Put xs m s e m xs
-put-within xs m p s e mp h se a l u v =
-    unchanged xs m s e h
-    (over_last xs m p s e mp h se a l u
-    ∙ ap (λ (r : Range). counted xs p ++ (r ∷ [])) (same-pair refl (omega arith))
-    ∙ sym (counted-last xs p (omega arith))
-    ∙ ap (counted xs) (sym mp))
-
-pub put_longer : (xs : List ℕ) (m p s e : ℕ) → m ≡ suc p → 2 * m ≤ length xs → s < e → Coalesced (counted xs m) → Low s (counted xs m)
-    → s ≤ get_or xs (2 * p + 1) 0 → get_or xs (2 * p + 1) 0 < e → Put xs m s e m (set xs (2 * p + 1) e)
-put_longer xs m p s e mp h se a l u v =
-    let j : join (range s e) (counted xs m) ≡ counted xs p ++ (range (get_or xs (2 * p) 0) e ∷ []) =
-    over_last xs m p s e mp h se a l u ∙ ap (λ (r : Range). counted xs p ++ (r ∷ [])) (same-pair refl (omega arith)) in
+pub put-joined : (xs : List ℕ) (m p s e : ℕ) → m ≡ suc p → 2 * m ≤ length xs → s < e → Coalesced (counted xs m) → Low s (counted xs m)
+    → s ≤ get_or xs (2 * p + 1) 0 → Put xs m s e m (set xs (2 * p + 1) (max (get_or xs (2 * p + 1) 0) e))
+put-joined xs m p s e mp h se a l u =
+    let t : ℕ = max (get_or xs (2 * p + 1) 0) e in
     let n = length-counted xs p (omega arith) in
-    let k = length-append (counted xs p) (range (get_or xs (2 * p) 0) e ∷ []) in
-    rw j (omega arith, stored_last xs m p e mp h)
+    let k = length-append (counted xs p) (range (get_or xs (2 * p) 0) t ∷ []) in
+    rw (over_last xs m p s e mp h se a l u) (omega arith, stored_last xs m p t mp h)
 
 pub put-behind : (xs : List ℕ) (m s e : ℕ) → 2 * m + 2 ≤ length xs → s < e → Coalesced (counted xs m) → Low s (counted xs m) → ((p : ℕ) → m ≡ suc p → get_or xs (2 * p + 1) 0 < s)
     → Put xs m s e (m + 1) (set (set xs (2 * m) s) (2 * m + 1) e)

@@ -23,12 +23,10 @@ fn put_last(list: &mut [u64], m: usize, s: u64, e: u64) -> usize
         return m;
     }
     if 0 < m {
-        let l = m - 1;
-        let h = end_at(list, l);
+        let last = m - 1;
+        let h = end_at(list, last);
         if s <= h {
-            if h < e {
-                put_end(list, l, e);
-            }
+            put_end(list, last, h.max(e));
             return m;
         }
     }
@@ -44,12 +42,10 @@ fn merge_ascending(list: &mut [u64], n: usize) -> usize
     ensures list_after { list.new ≡ stored (maximal_runs (counted list.old n)) n list.old }
 {
     let mut m = 0;
-    let mut k = 0;
-    while k < n {
+    for k in 0..n {
         let s = start_at(list, k);
         let e = end_at(list, k);
         m = put_last(list, m, s, e);
-        k += 1;
     }
     tidy(list, m, n);
     m

@@ -12,5 +12,5 @@ pub fn put_trailer(buf: &mut [u8], from: usize, to: usize)
     ensures { buf.new ≡ with_octets buf.old to (trailer (crc_of (take (to - from) (drop from buf.old)))) }
 {
     let crc = crc_of(buf, from, to);
-    put(buf, to, 2, crc as u64);
+    put(buf, to, 2, u64::from(crc));
 }

@@ -1,7 +1,7 @@
 // The CRC of a packet's trailer (document 02, C-11): 16 bits, polynomial x^16 + x^12 + x^5 + 1, preset to ones.
 #![tactic(auto)]
 
-ghost use Rattle.std.specs.Prelude.{◌≡◌, ◌-◌, ◌/◌, ◌^◌, ◌<◌, min, take, drop};
+ghost use Rattle.std.specs.Prelude.{◌≡◌, ◌-◌, ◌/◌, ◌^◌, ◌<◌, take, drop};
 ghost use Rattle.std.specs.Int.Bits.{bit_xor};
 ghost use Rattle.crc.specs.Crc.{message, divided, crc_of};
 ghost use Rattle.crc.specs.Damage.{ends_in_crc};
@@ -9,38 +9,23 @@ ghost use Rattle.crc.specs.Damage.{ends_in_crc};
 pub mod inner;
 mod table;
 
-fn wide(octet: u8) -> usize
-    ensures { (result ≡ octet) × (result < 256) }
-{
-    octet as usize
-}
-
-fn smaller(a: usize, b: usize) -> usize
-    ensures { result ≡ min a b }
-{
-    if a < b { a } else { b }
-}
-
 // Where the table is read for the next octet.
 fn place(crc: u16, octet: u8) -> usize
     ensures { (result ≡ bit_xor (crc / 2 ^ 8) octet) × (result < 256) }
 {
-    wide((crc >> 8) as u8 ^ octet)
+    usize::from((crc >> 8) as u8 ^ octet)
 }
 
 // The quick path: the CRC goes on from what earlier octets left, over the octets in the places `from` up to `to`, as far as there
-// are any. The table is laid down once for them all.
+// are any.
 pub fn go_on(crc: u16, octets: &[u8], from: usize, to: usize) -> u16
     ensures { result ≡ divided crc (message (take (to - from) (drop from octets.now))) }
 {
-    let remainders = table::TABLE;
-    let end = smaller(to, octets.len());
+    let remainders = &table::TABLE;
+    let end = to.min(octets.len());
     let mut r = crc;
-    let mut i = from;
-    while i < end {
-        let at = place(r, octets[i]);
-        r = remainders[at] ^ (r << 8);
-        i += 1;
+    for &octet in &octets[from.min(end)..end] {
+        r = remainders[place(r, octet)] ^ (r << 8);
     }
     r
 }

@@ -7,12 +7,12 @@ ghost use Rattle.ranges.specs.Inner.Cut.{first, behind, gone_of, cut_answer, cut
 
 use lists::inner::moves::replace;
 use lists::inner::pairs::{end_at, start_at};
-use ranges::inner::cut::{Part, Remains};
+use ranges::inner::cut::Part;
 
 // What a cut answers: what is left, and the part that has left, or would have where there is no room.
 #[derive(Clone, Copy)]
 pub struct CutDone {
-    pub remains: Remains,
+    pub remains: Option<usize>,
     pub part: Part,
 }
 
@@ -32,28 +32,28 @@ pub fn cut(list: &mut [u64], n: usize, i: usize, j: usize, a: u64, b: u64, room:
         if b < e {
             if room < n + 2 + i - j {
                 return CutDone {
-                    remains: Remains::Full,
+                    remains: None,
                     part: Part::Split,
                 };
             }
             return CutDone {
-                remains: Remains::Left(replace(list, n, i, j, 2, s, a, b, e)),
+                remains: Some(replace(list, n, i, j, &[[s, a], [b, e]])),
                 part: Part::Split,
             };
         }
         return CutDone {
-            remains: Remains::Left(replace(list, n, i, j, 1, s, a, 0, 0)),
+            remains: Some(replace(list, n, i, j, &[[s, a]])),
             part: Part::Right,
         };
     }
     if b < e {
         return CutDone {
-            remains: Remains::Left(replace(list, n, i, j, 1, b, e, 0, 0)),
+            remains: Some(replace(list, n, i, j, &[[b, e]])),
             part: Part::Left,
         };
     }
     CutDone {
-        remains: Remains::Left(replace(list, n, i, j, 0, 0, 0, 0, 0)),
+        remains: Some(replace(list, n, i, j, &[])),
         part: Part::Whole,
     }
 }

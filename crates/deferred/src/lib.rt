@@ -1,4 +1,4 @@
-// The deferred NAK procedure (C-22): the calls on a timer and on a record by value. Inputs are events, ticks and resets; no clock is read.
+// The deferred NAK procedure (C-22): the calls on a timer. Inputs are events, ticks and resets; no clock is read.
 #![tactic(auto)]
 
 pub mod data;

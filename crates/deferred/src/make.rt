@@ -2,7 +2,6 @@
 ghost use Rattle.std.specs.Prelude.{◌≡◌};
 ghost use Rattle.deferring.specs.Make.{is_outside, made};
 
-use deferring::make::MakeAnswer;
 use deferring::{Activity, Deferred};
 use outcomes::Refusal;
 
@@ -14,22 +13,16 @@ const MOST_ASKS: u64 = 255;
 fn is_outside(most: u64, n: u64) -> bool
     ensures { result ≡ is_outside most n }
 {
-    if n == 0 {
-        return true;
-    }
-    most < n
+    n == 0 || most < n
 }
 
-pub fn make(d: u64, limit: u64) -> MakeAnswer
+pub fn make(d: u64, limit: u64) -> Result<Deferred, Refusal>
     ensures { result ≡ made d limit }
 {
-    if is_outside(MOST_TICKS, d) {
-        return MakeAnswer::Refused(Refusal::BadTimer);
+    if is_outside(MOST_TICKS, d) || is_outside(MOST_ASKS, limit) {
+        return Err(Refusal::BadTimer);
     }
-    if is_outside(MOST_ASKS, limit) {
-        return MakeAnswer::Refused(Refusal::BadTimer);
-    }
-    MakeAnswer::Made(Deferred {
+    Ok(Deferred {
         period: d,
         limit,
         activity: Activity::Idle,

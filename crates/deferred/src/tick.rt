@@ -2,7 +2,6 @@
 ghost use Rattle.std.specs.Prelude.{◌≡◌};
 ghost use Rattle.deferring.specs.Tick.{expired, counted_down, ticked};
 
-use crate::inner::standing;
 use deferring::tick::{TickAnswer, TickDone};
 use deferring::{Activity, Deferred};
 
@@ -13,12 +12,17 @@ fn expire(timer: Deferred) -> TickDone
     if timer.limit <= timer.counter {
         return TickDone {
             answer: TickAnswer::Limit,
-            timer: standing(timer, Activity::Deaf, 0, timer.counter),
+            timer: timer.gone_deaf(),
         };
     }
     TickDone {
         answer: TickAnswer::Ask,
-        timer: standing(timer, Activity::Active, timer.period, timer.counter + 1),
+        timer: Deferred {
+            activity: Activity::Active,
+            left: timer.period,
+            counter: timer.counter + 1,
+            ..timer
+        },
     }
 }
 
@@ -31,21 +35,20 @@ fn count_down(timer: Deferred) -> TickDone
     }
     TickDone {
         answer: TickAnswer::Quiet,
-        timer: standing(timer, Activity::Active, timer.left - 1, timer.counter),
+        timer: Deferred {
+            activity: Activity::Active,
+            left: timer.left - 1,
+            ..timer
+        },
     }
 }
 
 pub fn tick(timer: Deferred) -> TickDone
     ensures { result ≡ ticked timer }
 {
-    let activity = timer.activity;
-    match activity {
-        Activity::Idle => TickDone {
-            answer: TickAnswer::Quiet,
-            timer,
-        },
+    match timer.activity {
         Activity::Active => count_down(timer),
-        Activity::Deaf => TickDone {
+        Activity::Idle | Activity::Deaf => TickDone {
             answer: TickAnswer::Quiet,
             timer,
         },

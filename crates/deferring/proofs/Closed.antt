@@ -18,7 +18,8 @@ use Rattle.holding.specs.Whole.{AllWhole, NoneRefused}
 use Rattle.holding.specs.MissingOctets.{missing_octets}
 use Rattle.holding.proofs.Counting.{count_none}
 use Rattle.sequence.specs.Entries.{rounded_up}
-use Rattle.sequence.specs.Sequence.{Order, Allowed, asked}
+use Rattle.sequence.specs.Sequence.{Allowed, asked}
+use Rattle.sequence.specs.declared.Order.{Order}
 use Rattle.sequence.specs.Calls.{Call, AllFit, octets_by, budgets}
 use Rattle.sequence.specs.Parted.{parted, requests_read}
 use Rattle.closing.specs.Arrival.{data_of}

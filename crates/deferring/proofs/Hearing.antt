@@ -4,9 +4,14 @@ use mathlib.Core.Path.{◌≡◌, refl, sym, ap, ◌∙◌}
 use mathlib.Core.Bool.{Bool, true, false, ◌&&◌, ◌||◌, cond, true≢false}
 use mathlib.Core.List.{List, []}
 use Prim.Native.Nat.{ℕ}
-use lib.Dec.{ltb}
-use Rattle.outcomes.specs.Outcome.{accepted}
-use Rattle.outcomes.proofs.FirstOf.{first-accepted}
+use lib.Dec.{ltb, eqb}
+use Rattle.std.specs.Prelude.{Result, Ok, Err, ⊤, is_ok}
+use Rattle.outcomes.specs.Outcome.{Outcome, accepted}
+use Rattle.outcomes.specs.Answered.{answered}
+use Rattle.outcomes.specs.declared.Refusal.{Refusal}
+use Rattle.outcomes.proofs.Refusals.{refuses}
+use Rattle.outcomes.specs.Checks.{Check, first_of, NoneOf, verdict_case}
+use Rattle.outcomes.proofs.FirstOf.{first-accepted, none_of}
 use Rattle.reception.specs.declared.Reception.{Reception}
 use Rattle.reception.specs.Record.{record_checks, Passed}
 use Rattle.reception.specs.Metadata.{mark_checks, metadata_checks}
@@ -20,6 +25,19 @@ use Rattle.deferring.specs.declared.Deferred.{Deferred}
 use Rattle.deferring.specs.Hear.{is_due, is_news, judged_as, judged, heard}
 use Rattle.deferring.proofs.Lasting.{passed-after}
 use Rattle.deferring.proofs.Lowering.{any_missing}
+
+-- an answer is a value exactly if its outcome has the number 0
+pub ok_accepted : {A : Type 0} (values : A → List ℕ) (r : Result A Refusal) (o : Outcome) → answered values r ≡ o → is_ok r ≡ eqb o.number 0
+ok_accepted {A = A} values r o e = go r ∙ ap (λ (o : Outcome). eqb o.number 0) e
+  where
+    go : (r : Result A Refusal) → is_ok r ≡ eqb (answered values r).number 0
+    go (Ok a) = refl
+    go (Err q) = sym (refuses q)
+
+-- checks that answer a value are passed
+pub ok-passed : (cs : List Check) (v : Result ⊤ Refusal) → verdict_case v ≡ first_of cs (accepted []) → is_ok v ≡ true → NoneOf cs
+ok-passed cs (Ok u) e f = none_of cs e
+ok-passed cs (Err r) e f = absurd (true≢false (sym f))
 
 -- an accepted event finds a sound record
 pub accepted-passed : (s : State) (e : Event) → is_accepted s e ≡ true → Passed s.list s.rec

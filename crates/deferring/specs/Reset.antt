@@ -1,20 +1,18 @@
 -- A reset of the timer (document 02, C-22). It only reads the record and the list.
-use Rattle.std.specs.Prelude.{ℕ, cond, List, []}
+use Rattle.std.specs.Prelude.{ℕ, cond, List, [], Result, ⊤}
 use Rattle.outcomes.specs.Outcome.{Outcome, accepted, lent}
-use Rattle.outcomes.specs.Refusal.{refusing}
+use Rattle.outcomes.specs.Answered.{answered, nothing}
 use Rattle.outcomes.specs.Checks.{first_of}
+use Rattle.outcomes.specs.declared.Refusal.{Refusal}
 use Rattle.reception.specs.declared.Reception.{Reception}
 use Rattle.reception.specs.Record.{record_checks}
 use Rattle.deferring.specs.declared.Deferred.{Deferred}
-use Rattle.deferring.specs.declared.reset.ResetAnswer.{ResetAnswer}
-use Rattle.deferring.specs.declared.reset.ResetAnswer.TheVariants as answer
 use Rattle.deferring.specs.Timer.{gone_active, gone_idle}
 use Rattle.deferring.specs.Hear.{is_due}
 
 -- The number and the values of each case of the answer.
-abbrev pub reset_case : ResetAnswer → Outcome
-reset_case answer.Restarted = accepted []
-reset_case (answer.Refused r) = refusing r
+abbrev pub reset_case : Result ⊤ Refusal → Outcome
+reset_case = answered nothing
 
 -- Checks: 10, 8, 12.
 abbrev pub reset_outcome : Reception → List ℕ → Outcome

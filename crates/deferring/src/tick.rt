@@ -1,7 +1,7 @@
 // What a tick answers.
 use crate::Deferred;
 
-#[derive(Clone, Copy)]
+#[derive(Clone, Copy, Debug, PartialEq, Eq)]
 pub enum TickAnswer {
     // Nothing is to be done.
     Quiet,

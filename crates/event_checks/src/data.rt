@@ -2,48 +2,26 @@
 ghost use Rattle.std.specs.Prelude.{◌≡◌, []};
 ghost use Rattle.outcomes.specs.Outcome.{accepted};
 ghost use Rattle.outcomes.specs.Checks.{verdict_case, first_of};
-ghost use Rattle.reception.specs.Data.{is_past_size, data_checks};
+ghost use Rattle.reception.specs.Data.{data_checks};
 
-use outcomes::{Refusal, Verdict};
+use outcomes::Refusal;
 use reception::Reception;
-use record_checks::inner::record_verdict;
-use searches::inner::checks::check;
-
-// 2^64 - 1.
-const LARGEST: u64 = 18446744073709551615;
-
-// 22 of a data event: whether the size is known and the end past it.
-fn past_size(rec: Reception, end: u64) -> bool
-    ensures { result ≡ is_past_size rec end }
-{
-    if rec.sized {
-        return rec.size < end;
-    }
-    false
-}
+use record_checks::inner::record_checks;
 
 // The checks before that of the room.
-pub fn data_checks(rec: Reception, list: &[u64], offset: u64, length: u64) -> Verdict
+pub fn data_checks(rec: Reception, list: &[u64], offset: u64, length: u64) -> Result<(), Refusal>
     ensures { verdict_case result ≡ first_of (data_checks rec list.now offset length) (accepted []) }
 {
-    let width = rec.width;
-    let top = width.limit();
-    let read = check(list, rec.count, top);
-    let found = record_verdict(rec, list, top, read);
-    if let Verdict::Refused(r) = found {
-        return Verdict::Refused(r);
-    }
+    record_checks(rec, list)?;
     if length == 0 {
-        return Verdict::Refused(Refusal::EmptySegment);
+        return Err(Refusal::EmptySegment);
     }
-    if LARGEST - offset < length {
-        return Verdict::Refused(Refusal::RangeTooLong);
+    let end = offset.checked_add(length).ok_or(Refusal::RangeTooLong)?;
+    if rec.width.limit() < end {
+        return Err(Refusal::LargeFileSegmentNotSupported);
     }
-    if top < offset + length {
-        return Verdict::Refused(Refusal::LargeFileSegmentNotSupported);
+    if rec.sized && rec.size < end {
+        return Err(Refusal::FileSizeError);
     }
-    if past_size(rec, offset + length) {
-        return Verdict::Refused(Refusal::FileSizeError);
-    }
-    Verdict::Passed
+    Ok(())
 }

@@ -1,4 +1,4 @@
-// The reception events on a record by value.
+// The reception events: on a record where it lies, and on one by value.
 #![tactic(auto)]
 
 pub mod data;

@@ -8,26 +8,25 @@ ghost use Rattle.reception.specs.Data.{kept_ranges, data_ranges};
 ghost use Rattle.reception.specs.Eof.{eof_ranges};
 
 use cutting::inner::cut;
-use inserting::inner::{insert, insert_behind, larger};
+use inserting::inner::{insert, insert_behind};
 use lists::inner::pairs::put_pair;
-use ranges::inner::cut::Remains;
 use searches::inner::halving::{first_above, first_past};
 
 // While waiting: the list is (0, to).
-fn notice(list: &mut [u64], count: usize, to: u64) -> Remains
+fn notice(list: &mut [u64], count: usize, to: u64) -> Option<usize>
     requires { (count ≤ 1) × ((2 * count ≤ length list.old) × (0 < to)) }
     ensures value { result ≡ cut_answer (capacity list.old) (waiting_ranges to) }
     ensures list_after { list.new ≡ cut_list (capacity list.old) (waiting_ranges to) count list.old }
 {
     if list.len() / 2 == 0 {
-        return Remains::Full;
+        return None;
     }
     put_pair(list, 0, 0, to);
-    Remains::Left(1)
+    Some(1)
 }
 
 // Metadata known: the offsets of (a, e) leave, and a gap from progress p up to a is added.
-fn keep(list: &mut [u64], count: usize, p: u64, a: u64, e: u64) -> Remains
+fn keep(list: &mut [u64], count: usize, p: u64, a: u64, e: u64) -> Option<usize>
     requires count_in_bounds { (2 * count ≤ length list.old) × ((length list.old ≤ most_numbers) × (a < e)) }
     requires coalesced { Coalesced (counted list.old count) × (last_end (counted list.old count) ≤ p) }
     ensures value { result ≡ cut_answer (capacity list.old) (kept_ranges p a e (counted list.old count)) }
@@ -39,19 +38,25 @@ fn keep(list: &mut [u64], count: usize, p: u64, a: u64, e: u64) -> Remains
     }
     // Data in order: no range ends above progress.
     if p == a {
-        return Remains::Left(count);
+        return Some(count);
     }
     let i = first_past(list, count, a);
     let j = first_above(list, count, i, e - 1);
     if i == j {
-        return Remains::Left(count);
+        return Some(count);
     }
-    let done = cut(list, count, i, j, a, e, room);
-    done.remains
+    cut(list, count, i, j, a, e, room).remains
 }
 
 // The list that an accepted data event leaves; room is judged on the number of its ranges.
-pub fn change(list: &mut [u64], count: usize, p: u64, missing: bool, a: u64, e: u64) -> Remains
+pub fn change(
+    list: &mut [u64],
+    count: usize,
+    p: u64,
+    missing: bool,
+    a: u64,
+    e: u64,
+) -> Option<usize>
     requires count_in_bounds { (2 * count ≤ length list.old) × ((length list.old ≤ most_numbers) × (a < e)) }
     requires coalesced { Coalesced (counted list.old count) × (last_end (counted list.old count) ≤ p) }
     requires count_bound { missing ≡ true → count ≤ 1 }
@@ -59,13 +64,13 @@ pub fn change(list: &mut [u64], count: usize, p: u64, missing: bool, a: u64, e: 
     ensures list_after { list.new ≡ cut_list (capacity list.old) (data_ranges missing p a e (counted list.old count)) count list.old }
 {
     if missing {
-        return notice(list, count, larger(p, e));
+        return notice(list, count, p.max(e));
     }
     keep(list, count, p, a, e)
 }
 
 // The list that an accepted EOF leaves: while waiting (0, z), empty at z = 0; else what lies between progress p and z becomes missing.
-pub fn finish(list: &mut [u64], count: usize, p: u64, missing: bool, z: u64) -> Remains
+pub fn finish(list: &mut [u64], count: usize, p: u64, missing: bool, z: u64) -> Option<usize>
     requires count_in_bounds { (2 * count ≤ length list.old) × ((length list.old ≤ most_numbers) × (p ≤ z)) }
     requires coalesced { Coalesced (counted list.old count) }
     requires count_value { missing ≡ true → is_waiting p (counted list.old count) ≡ true }
@@ -74,11 +79,10 @@ pub fn finish(list: &mut [u64], count: usize, p: u64, missing: bool, z: u64) -> 
 {
     // The size is where progress stands: nothing becomes missing.
     if p == z {
-        return Remains::Left(count);
+        return Some(count);
     }
     if missing {
         return notice(list, count, z);
     }
-    let room = list.len() / 2;
-    insert(list, count, p, z, room)
+    insert(list, count, p, z, list.len() / 2)
 }

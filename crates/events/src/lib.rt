@@ -1,6 +1,4 @@
-// Reception events: what a receiver does with file data and metadata as they come.
+// Reception events: what a receiver does with file data and metadata as they come. The record is changed where it lies.
 #![tactic(auto)]
 
-pub mod data;
-pub mod eof;
-pub mod metadata;
+pub use event_cores::{data, eof, metadata};

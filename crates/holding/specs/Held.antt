@@ -1,21 +1,18 @@
 -- held (a, b): was every octet of it kept? A call of our own, for the report that document 02, C-24, is about.
-use Rattle.std.specs.Prelude.{ℕ, Bool, ◌&&◌, not, cond, List, [], ◌∷◌, ◌++◌, leb, ltb, eqb}
+use Rattle.std.specs.Prelude.{ℕ, Bool, ◌&&◌, not, cond, List, [], ◌∷◌, ◌++◌, leb, ltb, eqb, Result}
 use Rattle.ranges.specs.Range.{some, shares}
 use Rattle.ranges.specs.Store.{counted}
 use Rattle.outcomes.specs.Outcome.{Outcome, accepted}
-use Rattle.outcomes.specs.Refusal.{refusing}
+use Rattle.outcomes.specs.Answered.{answered, yes_or_no}
 use Rattle.outcomes.specs.Checks.{Check, first_of}
 use Rattle.outcomes.specs.declared.Refusal.TheVariants as refusal
+use Rattle.outcomes.specs.declared.Refusal.{Refusal}
 use Rattle.reception.specs.declared.Reception.{Reception}
 use Rattle.reception.specs.Record.{record_checks}
-use Rattle.holding.specs.declared.held.HeldAnswer.{HeldAnswer}
-use Rattle.holding.specs.declared.held.HeldAnswer.TheVariants as answer
 
 -- The number and the values of each case of the answer: 1 for yes, 0 for no.
-abbrev pub held_case : HeldAnswer → Outcome
-held_case answer.Yes = accepted (1 ∷ [])
-held_case answer.No = accepted (0 ∷ [])
-held_case (answer.Refused r) = refusing r
+abbrev pub held_case : Result Bool Refusal → Outcome
+held_case = answered yes_or_no
 
 -- Checks of the range itself: 2, 3 (start, end).
 abbrev pub span_checks : ℕ → ℕ → List Check

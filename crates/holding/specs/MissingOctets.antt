@@ -1,19 +1,17 @@
 -- missing_octets: the number of offsets in the list. A call of our own, for the report that document 02, C-24, is about.
-use Rattle.std.specs.Prelude.{ℕ, List, [], ◌∷◌}
+use Rattle.std.specs.Prelude.{ℕ, List, [], ◌∷◌, Result}
 use Rattle.ranges.specs.Store.{counted}
 use Rattle.outcomes.specs.Outcome.{Outcome, accepted}
-use Rattle.outcomes.specs.Refusal.{refusing}
+use Rattle.outcomes.specs.Answered.{answered, itself}
 use Rattle.outcomes.specs.Checks.{first_of}
+use Rattle.outcomes.specs.declared.Refusal.{Refusal}
 use Rattle.reception.specs.declared.Reception.{Reception}
 use Rattle.reception.specs.Record.{record_checks}
 use Rattle.holding.specs.Count.{octets_below}
-use Rattle.holding.specs.declared.missing_octets.MissingOctetsAnswer.{MissingOctetsAnswer}
-use Rattle.holding.specs.declared.missing_octets.MissingOctetsAnswer.TheVariants as answer
 
 -- The number and the values of each case of the answer.
-abbrev pub missing_octets_case : MissingOctetsAnswer → Outcome
-missing_octets_case (answer.Missing octets) = accepted (octets ∷ [])
-missing_octets_case (answer.Refused r) = refusing r
+abbrev pub missing_octets_case : Result ℕ Refusal → Outcome
+missing_octets_case = answered itself
 
 -- The octets that a reception misses: the offsets below progress that the list has. No range of a sound record's list ends above it.
 abbrev pub missing_octets : Reception → List ℕ → ℕ

@@ -1,4 +1,5 @@
 -- What `first_reaching` and `near_above` find, and what `insert` answers and leaves at each of its ends.
+use Rattle.std.specs.Prelude.{Option, Some, None}
 use mathlib.Core.Path.{◌≡◌, refl, sym, ap, ap₂, ◌∙◌}
 use mathlib.Core.Bool.{Bool, true, false}
 use mathlib.Core.List.{List, [], ◌∷◌, ◌++◌}
@@ -6,15 +7,12 @@ use Prim.Native.Nat.{ℕ, zero, suc, ◌+◌, ◌*◌, ◌-◌, ◌≤◌, ◌<�
 use native.Mathlib.Omega.{arith}
 use lib.ListN.{length, drop, set, length-append}
 use lib.Seq.{drop-drop}
-use lib.Dec.{leb-zero}
 use borrow.Author.Tests.{lt-ltb, le-ltb}
 use Rattle.ranges.specs.Range.{Range, range, Above, Coalesced, place, last_end}
 use Rattle.ranges.specs.Store.{counted, stored, start_at, end_at}
 use Rattle.ranges.specs.Insert.{insert}
 use Rattle.ranges.specs.Inner.Cut.{from, first, behind, cut_answer, cut_list}
-use Rattle.ranges.specs.Inner.Moves.{replaced, of_two}
-use Rattle.ranges.specs.declared.inner.cut.Remains.{Remains}
-use Rattle.ranges.specs.declared.inner.cut.Remains.TheVariants.{Full, Left}
+use Rattle.ranges.specs.Inner.Moves.{replaced}
 use Rattle.ranges.proofs.Flat.{at as range_of, get_or-counted, length-counted, counted-last}
 use Rattle.ranges.proofs.Last.{ends_le, last-tail}
 use Rattle.ranges.proofs.Halving.{above_at}
@@ -24,11 +22,7 @@ use Rattle.ranges.proofs.Replaced.{length-replaced}
 use Rattle.inserting.specs.Inner.{reaching}
 use Rattle.inserting.proofs.Run.{made, insert-run}
 
--- every range reaches 0, and those that end above a reach the next offset
-pub reaching-zero : (rs : List Range) → reaching 0 rs ≡ 0
-reaching-zero [] = refl
-reaching-zero (r ∷ rs) = rw (leb-zero r.end)
-
+-- the ranges that end above a reach the next offset
 pub reaching-next : (s : ℕ) (rs : List Range) → 0 < s → first (s - 1) rs ≡ reaching s rs
 reaching-next s rs h = let e : suc (s - 1) ≡ s = omega arith in ap (λ (k : ℕ). reaching k rs) e
 
@@ -65,7 +59,7 @@ module _ (xs : List ℕ) (n s e room i j : ℕ) (run : InsertRun xs n s e room i
   abbrev rs : List Range
   rs = counted xs n
 
-  abbrev pub Answers : Remains → List ℕ → Type 0
+  abbrev pub Answers : Option ℕ → List ℕ → Type 0
   Answers r l = (r ≡ cut_answer room (insert (range s e) rs)) × (l ≡ cut_list room (insert (range s e) rs) n xs)
 
   fits : 2 * n ≤ length xs
@@ -91,12 +85,12 @@ module _ (xs : List ℕ) (n s e room i j : ℕ) (run : InsertRun xs n s e room i
       rw (z, k, f, g)
 
   pub in_room : (lo hi m : ℕ) (l : List ℕ) → made s e i (j - i) rs ≡ range lo hi → n + 1 + i ≤ room + j
-      → m ≡ length (replaced i j (of_two 1 lo hi 0 0) rs) → l ≡ stored (replaced i j (of_two 1 lo hi 0 0) rs) n xs → Answers (Left m) l
+      → m ≡ length (replaced i j (range lo hi ∷ []) rs) → l ≡ stored (replaced i j (range lo hi ∷ []) rs) n xs → Answers (Some m) l
   in_room lo hi m l q c u v =
       let w = puts lo hi q in
-      rw (w.0, le-ltb room (length (replaced i j (range lo hi ∷ []) rs)) (omega (arith, w.1))) (ap Left u, v)
+      rw (w.0, le-ltb room (length (replaced i j (range lo hi ∷ []) rs)) (omega (arith, w.1))) (ap Some u, v)
 
-  pub no_room : i ≡ j → n ≡ room → Answers Full xs
+  pub no_room : i ≡ j → n ≡ room → Answers None xs
   no_room h c =
       let w = puts s e (alone h) in
       rw (w.0, lt-ltb room (length (replaced i j (range s e ∷ []) rs)) (omega (arith, w.1))) (refl, refl)
@@ -118,13 +112,13 @@ module _ (xs : List ℕ) (n s e room : ℕ) (counts : n ≤ room) (lies : 2 * ro
 
   -- one range more, for which there is no room or room
   pub more_full : insert (range s e) (counted xs n) ≡ new → n ≡ room
-      → (Full ≡ cut_answer room (insert (range s e) (counted xs n))) × (xs ≡ cut_list room (insert (range s e) (counted xs n)) n xs)
+      → (None ≡ cut_answer room (insert (range s e) (counted xs n))) × (xs ≡ cut_list room (insert (range s e) (counted xs n)) n xs)
   more_full q h = rw (q, lt-ltb room (length new) (omega (arith, length-new))) (refl, refl)
 
   pub more-put : insert (range s e) (counted xs n) ≡ new → n < room
-      → (Left (n + 1) ≡ cut_answer room (insert (range s e) (counted xs n)))
+      → (Some (n + 1) ≡ cut_answer room (insert (range s e) (counted xs n)))
       × (set (set xs (2 * n) s) (2 * n + 1) e ≡ cut_list room (insert (range s e) (counted xs n)) n xs)
-  more-put q h = rw (q, le-ltb room (length new) (omega (arith, length-new))) (ap Left (sym length-new), stored_push xs n s e (omega arith))
+  more-put q h = rw (q, le-ltb room (length new) (omega (arith, length-new))) (ap Some (sym length-new), stored_push xs n s e (omega arith))
 
   -- where there is none, it is the first
   pub more-first : n ≡ 0 → insert (range s e) (counted xs n) ≡ new
@@ -146,8 +140,8 @@ module _ (xs : List ℕ) (n s e room : ℕ) (counts : n ≤ room) (lies : 2 * ro
         ∙ ap (λ (r : Range). counted xs p ++ (r ∷ [])) (ap₂ range (omega (arith, o.1)) (omega arith)))
 
     pub more-longer : (p : ℕ) → n ≡ suc p → s < e → end_at xs p ≡ s
-        → (Left n ≡ cut_answer room (insert (range s e) (counted xs n))) × (set xs (2 * p + 1) e ≡ cut_list room (insert (range s e) (counted xs n)) n xs)
+        → (Some n ≡ cut_answer room (insert (range s e) (counted xs n))) × (set xs (2 * p + 1) e ≡ cut_list room (insert (range s e) (counted xs n)) n xs)
     more-longer p np lt ends =
         let m : List Range = counted xs p ++ (range (start_at xs p) e ∷ []) in
         let k : length m ≡ n = length-append (counted xs p) (range (start_at xs p) e ∷ []) ∙ ap (λ (j : ℕ). j + 1) (length-counted xs p (omega arith)) ∙ omega arith in
-        rw (longer p np lt ends, le-ltb room (length m) (omega (arith, k))) (ap Left (sym k), stored_last xs n p e np (omega arith))
+        rw (longer p np lt ends, le-ltb room (length m) (omega (arith, k))) (ap Some (sym k), stored_last xs n p e np (omega arith))

@@ -1,5 +1,5 @@
 // Inner: a range put into a coalesced list. Each function asks for what its caller has checked.
-ghost use Rattle.std.specs.Prelude.{◌≡◌, suc, ◌*◌, ◌<◌, ◌≤◌, min, max, length};
+ghost use Rattle.std.specs.Prelude.{◌≡◌, suc, ◌*◌, ◌<◌, ◌≤◌, max, length};
 ghost use Rattle.ranges.specs.Range.{range, Coalesced, last_end};
 ghost use Rattle.ranges.specs.Store.{counted, most_numbers};
 ghost use Rattle.ranges.specs.Inner.Cut.{behind, cut_answer, cut_list};
@@ -8,21 +8,14 @@ ghost use Rattle.inserting.specs.Inner.{reaching};
 
 use lists::inner::moves::replace;
 use lists::inner::pairs::{end_at, put_end, put_pair, start_at};
-use ranges::inner::cut::Remains;
 use searches::inner::checks::last_end;
 use searches::inner::halving::{first_above, first_past};
-
-fn smaller(a: u64, b: u64) -> u64
-    ensures { result ≡ min a b }
-{
-    if a < b { a } else { b }
-}
 
 // The larger of two numbers.
 pub fn larger(a: u64, b: u64) -> u64
     ensures { result ≡ max a b }
 {
-    if a < b { b } else { a }
+    a.max(b)
 }
 
 // The place of the first range that ends at s or above, or their number.
@@ -33,9 +26,10 @@ fn first_reaching(list: &[u64], n: usize, s: u64) -> usize
     ensures upper_bound { result ≤ n }
 {
     if s == 0 {
-        return 0;
+        0
+    } else {
+        first_past(list, n, s - 1)
     }
-    first_past(list, n, s - 1)
 }
 
 // What `first_above` finds. A new range mostly joins two ranges at most, so three are looked at before the rest is halved.
@@ -45,21 +39,17 @@ fn near_above(list: &[u64], n: usize, i: usize, e: u64) -> usize
     ensures value { result ≡ behind i (suc e) (counted list.now n) }
     ensures lower_bound { (i ≤ result) × (result ≤ n) }
 {
-    let mut j = i;
-    while j < n {
+    let near = n.min(i + 3);
+    for j in i..near {
         if e < start_at(list, j) {
             return j;
         }
-        if j == i + 2 {
-            return first_above(list, n, j + 1, e);
-        }
-        j += 1;
     }
-    j
+    first_above(list, n, near, e)
 }
 
 // The range (s, e) is put into the n ranges where it is found to go, and joins those that it overlaps or touches.
-fn insert_between(list: &mut [u64], n: usize, s: u64, e: u64, room: usize) -> Remains
+fn insert_between(list: &mut [u64], n: usize, s: u64, e: u64, room: usize) -> Option<usize>
     requires n_le_room { (n ≤ room) × ((2 * room ≤ length list.old) × ((length list.old ≤ most_numbers) × (s < e))) }
     requires coalesced { Coalesced (counted list.old n) }
     ensures value { result ≡ cut_answer room (insert (range s e) (counted list.old n)) }
@@ -69,17 +59,17 @@ fn insert_between(list: &mut [u64], n: usize, s: u64, e: u64, room: usize) -> Re
     let j = near_above(list, n, i, e);
     if i == j {
         if n == room {
-            return Remains::Full;
+            return None;
         }
-        return Remains::Left(replace(list, n, i, j, 1, s, e, 0, 0));
+        return Some(replace(list, n, i, j, &[[s, e]]));
     }
-    let low = smaller(s, start_at(list, i));
-    let high = larger(e, end_at(list, j - 1));
-    Remains::Left(replace(list, n, i, j, 1, low, high, 0, 0))
+    let low = s.min(start_at(list, i));
+    let high = e.max(end_at(list, j - 1));
+    Some(replace(list, n, i, j, &[[low, high]]))
 }
 
 // The range (s, e) is put behind the n ranges, of which none ends above s: it joins the last one if that ends at s.
-pub fn insert_behind(list: &mut [u64], n: usize, s: u64, e: u64, room: usize) -> Remains
+pub fn insert_behind(list: &mut [u64], n: usize, s: u64, e: u64, room: usize) -> Option<usize>
     requires n_le_room { (n ≤ room) × ((2 * room ≤ length list.old) × (s < e)) }
     requires coalesced { Coalesced (counted list.old n) × (last_end (counted list.old n) ≤ s) }
     ensures value { result ≡ cut_answer room (insert (range s e) (counted list.old n)) }
@@ -89,26 +79,27 @@ pub fn insert_behind(list: &mut [u64], n: usize, s: u64, e: u64, room: usize) ->
         let l = n - 1;
         if end_at(list, l) == s {
             put_end(list, l, e);
-            return Remains::Left(n);
+            return Some(n);
         }
     }
     if n == room {
-        return Remains::Full;
+        return None;
     }
     put_pair(list, n, s, e);
-    Remains::Left(n + 1)
+    Some(n + 1)
 }
 
 // The range (s, e) is put into the n ranges and joins those that it overlaps or touches. There is room for so many. Behind the last of
 // them it needs no search.
-pub fn insert(list: &mut [u64], n: usize, s: u64, e: u64, room: usize) -> Remains
+pub fn insert(list: &mut [u64], n: usize, s: u64, e: u64, room: usize) -> Option<usize>
     requires n_le_room { (n ≤ room) × ((2 * room ≤ length list.old) × ((length list.old ≤ most_numbers) × (s < e))) }
     requires coalesced { Coalesced (counted list.old n) }
     ensures value { result ≡ cut_answer room (insert (range s e) (counted list.old n)) }
     ensures list_after { list.new ≡ cut_list room (insert (range s e) (counted list.old n)) n list.old }
 {
     if s < last_end(list, n) {
-        return insert_between(list, n, s, e, room);
+        insert_between(list, n, s, e, room)
+    } else {
+        insert_behind(list, n, s, e, room)
     }
-    insert_behind(list, n, s, e, room)
 }

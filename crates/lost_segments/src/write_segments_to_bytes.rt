@@ -7,42 +7,34 @@ ghost use Rattle.segment_store.specs.WriteSegmentsToBytes.{to_bytes_case, to_byt
 
 use octets::LargeFileFlag;
 use octets::inner::put_all;
-use outcomes::{Refusal, Verdict};
+use outcomes::Refusal;
 use searches::inner::checks::any_above;
 use segment_store::Store;
-use segment_store::write_segments_to_bytes::WriteAnswer;
 
 // 7: whether one of the first `end` numbers, none of them above top, is above the flag's largest.
 fn any_too_large(list: &[u64], end: usize, top: u64, largest: u64) -> bool
     requires { (end ≤ length list.now) × (any_above top (take end list.now) ≡ false) }
     ensures { result ≡ any_above largest (take end list.now) }
 {
-    if top <= largest {
-        return false;
-    }
-    any_above(list, end, largest)
+    largest < top && any_above(list, end, largest)
 }
 
 // The checks of write_segments_to_bytes, in order, for a buffer of `given` octets.
-fn write_checks(st: Store, list: &[u64], flag: LargeFileFlag, given: usize) -> Verdict
+fn write_checks(st: Store, list: &[u64], flag: LargeFileFlag, given: usize) -> Result<(), Refusal>
     ensures { verdict_case result ≡ first_of (to_bytes_checks list.now st flag given) (accepted []) }
 {
-    let count = st.count;
-    let width = st.width;
-    let top = width.limit();
-    if searches::bad_store(list, count, top) {
-        return Verdict::Refused(Refusal::BadStore);
+    let top = st.width.limit();
+    if searches::bad_store(list, st.count, top) {
+        return Err(Refusal::BadStore);
     }
-    let f = flag.field_length();
-    let needed = count * (2 * f);
+    let needed = st.count * (2 * flag.field_length());
     if given != needed {
-        return Verdict::Refused(Refusal::BufferSizeMissmatch(needed, given));
+        return Err(Refusal::BufferSizeMissmatch(needed, given));
     }
-    let largest = flag.largest();
-    if any_too_large(list, 2 * count, top, largest) {
-        return Verdict::Refused(Refusal::LargeSegmentForNormalFileSize);
+    if any_too_large(list, 2 * st.count, top, flag.largest()) {
+        return Err(Refusal::LargeSegmentForNormalFileSize);
     }
-    Verdict::Passed
+    Ok(())
 }
 
 pub fn write_segments_to_bytes(
@@ -50,16 +42,12 @@ pub fn write_segments_to_bytes(
     list: &[u64],
     buf: &mut [u8],
     flag: LargeFileFlag,
-) -> WriteAnswer
+) -> Result<usize, Refusal>
     ensures result_value { to_bytes_case result ≡ to_bytes_outcome list.now st flag buf.old }
     ensures buf_after { buf.new ≡ to_bytes_buffer list.now st flag buf.old }
 {
     let given = buf.len();
-    let found = write_checks(st, list, flag, given);
-    if let Verdict::Refused(r) = found {
-        return WriteAnswer::Refused(r);
-    }
-    let f = flag.field_length();
-    put_all(buf, 0, f, list, 0, 2 * st.count);
-    WriteAnswer::Written(given)
+    write_checks(st, list, flag, given)?;
+    put_all(buf, 0, flag.field_length(), list, 0, 2 * st.count);
+    Ok(given)
 }

@@ -1,10 +1,10 @@
 -- Flat lists and their pairs.
 use mathlib.Core.Path.{◌≡◌, refl}
 use mathlib.Core.List.{List, [], ◌∷◌}
-use Prim.Native.Nat.{ℕ, suc, ◌+◌, ◌*◌, ◌%◌, ◌≤◌, ◌<◌}
+use Prim.Native.Nat.{ℕ, zero, suc, ◌+◌, ◌*◌, ◌%◌, ◌≤◌, ◌<◌}
 use native.Mathlib.Omega.{arith}
 use lib.ListN.{length, get_or, drop}
-use lib.Seq.{drop-cons}
+use Rattle.std.specs.Simd.{first_chunks}
 use Rattle.ranges.specs.Range.{range}
 use Rattle.ranges.specs.Store.{pairs, flat}
 
@@ -14,12 +14,17 @@ pairs-short [] h = refl
 pairs-short (x ∷ []) h = refl
 pairs-short (x ∷ y ∷ xs) h = absurd (omega arith)
 
--- the pair at place i, and those behind it
-pub pairs-turn : (xs : List ℕ) (i : ℕ) → 2 * i + 1 < length xs → pairs (drop (2 * i) xs) ≡ range (get_or xs (2 * i) 0) (get_or xs (2 * i + 1) 0) ∷ pairs (drop (2 * (i + 1)) xs)
-pairs-turn xs i h =
-    let e : 2 * (i + 1) ≡ suc (suc (2 * i)) = omega arith in
-    let f : 2 * i + 1 ≡ suc (2 * i) = omega arith in
-    rw (e, f, drop-cons xs (2 * i) 0 (omega arith), drop-cons xs (suc (2 * i)) 0 (omega arith))
+-- the pair at place i, as the list's chunks of two have it, and those behind it
+pub chunk-turn : (xs : List ℕ) (k i : ℕ) → i < k → 2 * k ≤ length xs
+    → pairs (drop (2 * i) xs) ≡ range (get_or (get_or (first_chunks 2 k xs) i []) 0 0) (get_or (get_or (first_chunks 2 k xs) i []) 1 0) ∷ pairs (drop (2 * (i + 1)) xs)
+chunk-turn [] k i h l = absurd (omega arith)
+chunk-turn (x ∷ []) k i h l = absurd (omega arith)
+chunk-turn (x ∷ y ∷ xs) zero i h l = absurd (omega arith)
+chunk-turn (x ∷ y ∷ xs) (suc k) zero h l = refl
+chunk-turn (x ∷ y ∷ xs) (suc k) (suc i) h l =
+    let e : 2 * suc i ≡ suc (suc (2 * i)) = omega arith in
+    let f : 2 * (suc i + 1) ≡ suc (suc (2 * (i + 1))) = omega arith in
+    rw (e, f) (chunk-turn xs k i (omega arith) (omega arith))
 
 -- a flat list of even length is that of its pairs
 pub flat-pairs : (xs : List ℕ) → length xs % 2 ≡ 0 → flat (pairs xs) ≡ xs

@@ -2,7 +2,7 @@
 use mathlib.Core.Path.{◌≡◌, refl, ap, ◌∙◌}
 use mathlib.Core.Bool.{Bool, true, false}
 use mathlib.Core.List.{List, ◌∷◌, ◌++◌}
-use Prim.Native.Nat.{ℕ, suc, ◌+◌, ◌*◌, ◌≤◌}
+use Prim.Native.Nat.{ℕ, suc, ◌+◌, ◌*◌, ◌/◌, ◌≤◌}
 use native.Mathlib.Nat.{mul-add, mul_assoc, mul_comm}
 use native.Mathlib.Omega.{arith}
 use lib.ListN.{length, take, drop, length-append, length-drop}
@@ -15,10 +15,11 @@ use Rattle.octets.specs.Flag.{field_length}
 use Rattle.octets.specs.declared.LargeFileFlag.{LargeFileFlag}
 use Rattle.octets.specs.declared.LargeFileFlag.TheVariants.{Normal, Large}
 use Rattle.octets.proofs.Fields.{length-field, length_fields}
+use Rattle.nak.specs.declared.Asked.{Asked}
 use Rattle.nak.specs.declared.Form.{Form}
 use Rattle.nak.specs.declared.Identity.{Identity}
 use Rattle.nak.specs.Pdu.{Nak, header_octets, identity_octets, data_octets, data_field, header, front, trailer, pdu, header_length, trailer_length, pdu_length}
-use Rattle.nak.specs.Inner.{metadata_first, pairs_from, entries}
+use Rattle.nak.specs.Inner.{metadata_first, pairs_from, entries, requests_of}
 use Rattle.nak.proofs.Flat.{flat-pairs}
 
 pub length-header : (g : Form) (i q n : ℕ) → length (header_octets g i q n) ≡ 4
@@ -85,9 +86,13 @@ length-entries m xs first count h =
     let d = length-drop (2 * first) xs in
     rw (flat-entries m xs first count h, length-append (flat (metadata_first m)), length-take-le (2 * count) (drop (2 * first) xs) (omega arith))
 
--- how much room each part of the data field takes
-pub data_room : (f : ℕ) (m : Bool) (count : ℕ) → f * (2 + (length (flat (metadata_first m)) + 2 * count)) ≡ 2 * f + length (fields f (flat (metadata_first m))) + f * (2 * count)
-data_room f m count = rw (length_fields f (flat (metadata_first m)), mul-add, mul-add) (omega arith)
+-- how much room each part of the data field of what is asked for takes
+pub length-asked_for : (a : Asked) → length (flat (requests_of a)) ≡ length (flat (metadata_first a.metadata)) + 2 * (length a.requests.now / 2)
+length-asked_for a = length-entries a.metadata a.requests.now 0 (length a.requests.now / 2) (omega arith)
+
+pub data_room : (f : ℕ) (a : Asked)
+    → f * (2 + length (flat (requests_of a))) ≡ 2 * f + length (fields f (flat (metadata_first a.metadata))) + f * (2 * (length a.requests.now / 2))
+data_room f a = rw (length-asked_for a, length_fields f (flat (metadata_first a.metadata)), mul-add, mul-add) (omega arith)
 
 -- two numbers for the metadata request
 pub length-asked : (f : ℕ) → length (fields f (flat (metadata_first true))) ≡ f + f

@@ -1,15 +1,14 @@
 -- Writing one PDU (document 01, "Writing one PDU").
-use Rattle.std.specs.Prelude.{ℕ, ◌%◌, Bool, ◌||◌, not, List, [], ◌∷◌, ◌++◌, eqb, ltb, length}
+use Rattle.std.specs.Prelude.{ℕ, ◌%◌, Bool, ◌||◌, not, List, [], ◌∷◌, ◌++◌, eqb, ltb, length, Result}
 use Rattle.ranges.specs.Store.{flat, any_above, most_numbers}
 use Rattle.outcomes.specs.Outcome.{Outcome, accepted, lent}
-use Rattle.outcomes.specs.Refusal.{refusing}
+use Rattle.outcomes.specs.Answered.{answered, itself}
 use Rattle.outcomes.specs.Checks.{Check, first_of}
 use Rattle.outcomes.specs.declared.Refusal.TheVariants as refusal
+use Rattle.outcomes.specs.declared.Refusal.{Refusal}
 use Rattle.octets.specs.Octets.{fits}
 use Rattle.octets.specs.Flag.{largest_of}
 use Rattle.nak.specs.declared.Identity.{Identity}
-use Rattle.nak.specs.declared.writer.WriteAnswer.{WriteAnswer}
-use Rattle.nak.specs.declared.writer.WriteAnswer.TheVariants.{Written, Refused}
 use Rattle.nak.specs.Header.{is_reserved_set}
 use Rattle.nak.specs.Pdu.{Nak, pdu}
 use Rattle.nak.specs.Request.{requests_checks}
@@ -65,6 +64,5 @@ abbrev pub written : List ℕ → Nak → List ℕ → List ℕ
 written xs n buf = lent (write_outcome xs n (length buf)) (pdu n) buf
 
 -- The number and values of each case.
-abbrev pub write_case : WriteAnswer → Outcome
-write_case (Written n) = accepted (n ∷ [])
-write_case (Refused r) = refusing r
+abbrev pub write_case : Result ℕ Refusal → Outcome
+write_case = answered itself

@@ -2,14 +2,16 @@
 // nak_reader.
 #![tactic(auto)]
 
-ghost use Rattle.std.specs.Prelude.{◌≡◌};
+ghost use Rattle.std.specs.Prelude.{◌≡◌, ◌/◌, ◌≤◌, length};
 ghost use Rattle.octets.specs.Flag.{field_length, largest_of};
 ghost use Rattle.nak.specs.Header.{is_reserved_set};
+ghost use Rattle.nak.specs.Inner.{requests_of};
 ghost use Rattle.nak.specs.Pdu.{trailer_length};
+ghost use Rattle.nak.specs.Request.{is_metadata};
+ghost use Rattle.ranges.specs.Range.{range};
+ghost use Rattle.ranges.specs.Store.{flat};
 
 use octets::LargeFileFlag;
-
-pub mod writer;
 
 // A PDU has at most 4,096 octets.
 pub const LARGEST_PDU: usize = 4096;
@@ -38,16 +40,14 @@ impl Form {
     pub fn field_length(self) -> usize
         ensures { result ≡ field_length self.flag }
     {
-        let flag = self.flag;
-        flag.field_length()
+        self.flag.field_length()
     }
 
     // The largest number that such a PDU holds.
     pub fn largest(self) -> u64
         ensures { result ≡ largest_of self.flag }
     {
-        let flag = self.flag;
-        flag.largest()
+        self.flag.largest()
     }
 
     // The octets of the trailer.
@@ -61,25 +61,53 @@ impl Form {
     pub fn reserved_set(self) -> bool
         ensures { result ≡ is_reserved_set self.edition self.flag }
     {
-        let edition = self.edition;
-        let flag = self.flag;
-        match edition {
-            Edition::Older => match flag {
-                LargeFileFlag::Normal => false,
-                LargeFileFlag::Large => true,
-            },
-            Edition::Newer => false,
-        }
+        matches!(
+            (self.edition, self.flag),
+            (Edition::Older, LargeFileFlag::Large)
+        )
     }
 }
 
 // Source entity and destination entity, identifiers of `entity_length` octets, and the transaction's sequence number, of
 // `number_length` octets.
-#[derive(Clone, Copy)]
+#[derive(Clone, Copy, PartialEq, Eq)]
 pub struct Identity {
     pub entity_length: usize,
     pub number_length: usize,
     pub source: u64,
     pub number: u64,
     pub destination: u64,
+}
+
+// What one PDU asks for: its scope, and its requests: the one for metadata first, where it is asked for, and then the pairs of a flat
+// list.
+#[derive(Clone, Copy)]
+pub struct Asked<'a> {
+    pub start: u64,
+    pub end: u64,
+    pub metadata: bool,
+    pub requests: &'a [u64],
+}
+
+impl<'a> Asked<'a> {
+    // How many pairs of the list it asks for.
+    pub fn pairs(self) -> usize
+        ensures { result ≡ length self.entry.requests.now / 2 }
+    {
+        self.requests.len() / 2
+    }
+
+    // How many numbers its requests have.
+    pub fn numbers(self) -> usize
+        ensures { result ≡ length (flat (requests_of self.entry)) }
+    {
+        2 * (usize::from(self.metadata) + self.pairs())
+    }
+}
+
+// Whether a request asks for metadata: (0, 0).
+pub fn is_metadata(start: u64, end: u64) -> bool
+    ensures { result ≡ is_metadata (range start end) }
+{
+    start == 0 && end == 0
 }

@@ -1,42 +1,26 @@
 // Inner: not part of the public interface.
 ghost use Rattle.std.specs.Prelude.{◌≡◌, cond};
-ghost use Rattle.nak.specs.Header.{fixed0, crc_bit, flag_bit, octet0, fixed_bits0, wrong_fixed, flag_of, crc_flag_of, form_of};
+ghost use Rattle.nak.specs.Header.{fixed0, octet0, fixed_bits0, wrong_fixed, flag_of, crc_flag_of, form_of};
 
 use nak::{Edition, Form};
 use octets::LargeFileFlag;
 
 // Octet 0 but for the CRC flag and the lowest bit.
-fn fixed_bits(edition: Edition) -> u64
+fn fixed_bits(edition: Edition) -> u8
     ensures { result ≡ fixed0 edition }
 {
     match edition {
-        Edition::Older => 8,
-        Edition::Newer => 40,
+        Edition::Older => 0b0000_1000,
+        Edition::Newer => 0b0010_1000,
     }
-}
-
-fn flag_bit(flag: LargeFileFlag) -> u64
-    ensures { result ≡ flag_bit flag }
-{
-    match flag {
-        LargeFileFlag::Normal => 0,
-        LargeFileFlag::Large => 1,
-    }
-}
-
-fn crc_bit(crc: bool) -> u64
-    ensures { result ≡ crc_bit crc }
-{
-    if crc { 1 } else { 0 }
 }
 
 // Octet 0 of a PDU of this form.
 pub fn octet_0(form: Form) -> u64
     ensures { result ≡ octet0 form }
 {
-    let edition = form.edition;
-    let flag = form.flag;
-    fixed_bits(edition) + crc_bit(form.crc) * 2 + flag_bit(flag)
+    let large = matches!(form.flag, LargeFileFlag::Large);
+    u64::from(fixed_bits(form.edition)) + u64::from(form.crc) * 2 + u64::from(large)
 }
 
 // What an octet 0 has at the places of the fixed bits.
@@ -50,13 +34,12 @@ fn fixed_bits_in(edition: Edition, o0: usize) -> usize
 }
 
 // 15.
+#[tactic(auto, unfolding(nak::specs::Header::wrong_fixed))]
 pub fn wrong_fixed(edition: Edition, o0: usize, o3: usize) -> bool
     ensures { result ≡ wrong_fixed edition o0 o3 }
 {
-    if fixed_bits_in(edition, o0) != fixed_bits(edition) as usize {
-        return true;
-    }
-    o3 / 128 * 128 + o3 / 8 % 2 * 8 != 0
+    fixed_bits_in(edition, o0) != usize::from(fixed_bits(edition))
+        || o3 / 128 * 128 + o3 / 8 % 2 * 8 != 0
 }
 
 // The large file flag of octet 0.
@@ -88,7 +71,9 @@ pub fn trailer_of(octet: usize) -> usize
 pub fn form_of(edition: Edition, octet: usize) -> Form
     ensures { result ≡ form_of edition octet }
 {
-    let flag = flag_of(octet);
-    let crc = crc_flag_of(octet);
-    Form { edition, flag, crc }
+    Form {
+        edition,
+        flag: flag_of(octet),
+        crc: crc_flag_of(octet),
+    }
 }

@@ -1,20 +1,21 @@
 -- Fields written side by side make the header, the identity, the data field.
 use mathlib.Core.Path.{◌≡◌, refl, sym, ap, ◌∙◌}
-use mathlib.Core.Bool.{Bool, true}
+use mathlib.Core.Bool.{true}
 use mathlib.Core.List.{List, ◌++◌, append_assoc, append-nil}
-use Prim.Native.Nat.{ℕ, ◌+◌, ◌*◌, ◌≤◌}
+use Prim.Native.Nat.{ℕ, ◌+◌, ◌*◌, ◌/◌, ◌≤◌}
 use native.Mathlib.Omega.{arith}
-use lib.ListN.{length, take, drop, length-append}
+use lib.ListN.{length, take, length-append}
 use Rattle.ranges.specs.Range.{range}
 use Rattle.ranges.specs.Store.{flat}
 use Rattle.octets.specs.Octets.{field, fields, with_octets}
 use Rattle.octets.proofs.Fields.{length-field, fields-append}
 use Rattle.octets.proofs.Over.{over_then}
+use Rattle.nak.specs.declared.Asked.{Asked}
 use Rattle.nak.specs.declared.Form.{Form}
 use Rattle.nak.specs.declared.Identity.{Identity}
 use Rattle.nak.specs.Header.{octet0, octet3}
 use Rattle.nak.specs.Pdu.{nak_code, header_octets, identity_octets, data_octets}
-use Rattle.nak.specs.Inner.{metadata_first, entries}
+use Rattle.nak.specs.Inner.{metadata_first, requests_of}
 use Rattle.nak.proofs.Parts.{flat-entries}
 
 pub header_puts :
@@ -64,19 +65,23 @@ asked_puts xs at f e h k =
     over_then xs at (at + f) (field f 0) (field f 0) e h (omega arith) k ∙ ap (λ (os : List ℕ). with_octets xs at (field f 0 ++ os)) (sym (append-nil (field f 0)))
 
 pub data_puts :
-    (xs list : List ℕ) (at f s e : ℕ) (m : Bool) (first count : ℕ) {place : ℕ} {v w y z u : List ℕ}
+    (xs : List ℕ) (at f : ℕ) (a : Asked) {place : ℕ} {v w y z u : List ℕ}
     → v ≡ with_octets xs at (field 1 nak_code)
-    → w ≡ with_octets v (at + 1) (field f s)
-    → y ≡ with_octets w (at + 1 + f) (field f e)
-    → z ≡ with_octets y (at + 1 + f + f) (fields f (flat (metadata_first m)))
-    → place ≡ at + 1 + f + f + length (fields f (flat (metadata_first m)))
-    → u ≡ with_octets z place (fields f (take (2 * count) (drop (2 * first) list)))
-    → 2 * first + 2 * count ≤ length list
-    → at + (1 + 2 * f + length (fields f (flat (metadata_first m)))) ≤ length xs
-    → u ≡ with_octets xs at (data_octets f (range s e) (entries m list first count))
+    → w ≡ with_octets v (at + 1) (field f a.start)
+    → y ≡ with_octets w (at + 1 + f) (field f a.end)
+    → z ≡ with_octets y (at + 1 + f + f) (fields f (flat (metadata_first a.metadata)))
+    → place ≡ at + 1 + f + f + length (fields f (flat (metadata_first a.metadata)))
+    → u ≡ with_octets z place (fields f (take (2 * (length a.requests.now / 2)) a.requests.now))
+    → at + (1 + 2 * f + length (fields f (flat (metadata_first a.metadata)))) ≤ length xs
+    → u ≡ with_octets xs at (data_octets f (range a.start a.end) (requests_of a))
 unfolding data_octets
-data_puts xs list at f s e m first count {place} h1 h2 h3 h4 h5 h6 k r =
-    let n = take (2 * count) (drop (2 * first) list) in
+data_puts xs at f q {place} h1 h2 h3 h4 h5 h6 r =
+    let s = q.start in
+    let e = q.end in
+    let m = q.metadata in
+    let list = q.requests.now in
+    let count = length list / 2 in
+    let n = take (2 * count) list in
     let c : List ℕ = field 1 nak_code in
     let a = fields f (flat (metadata_first m)) in
     let ls = length-field f s in
@@ -88,4 +93,4 @@ data_puts xs list at f s e m first count {place} h1 h2 h3 h4 h5 h6 k r =
     let t2 = over_then xs at (at + 1 + f) (c ++ field f s) (field f e) t1 h3 (omega arith) (omega arith) in
     let t3 = over_then xs at (at + 1 + f + f) (c ++ field f s ++ field f e) a t2 h4 (omega arith) (omega arith) in
     let t4 = over_then xs at place (c ++ field f s ++ field f e ++ a) (fields f n) t3 h6 (omega arith) (omega arith) in
-    t4 ∙ ap (with_octets xs at) (rw (flat-entries m list first count k, fields-append f (flat (metadata_first m))) (simp append_assoc))
+    t4 ∙ ap (with_octets xs at) (rw (flat-entries m list 0 count (omega arith), fields-append f (flat (metadata_first m))) (simp append_assoc))

@@ -4,17 +4,11 @@ ghost use Rattle.ranges.specs.Range.{range};
 ghost use Rattle.ranges.specs.Store.{flat};
 ghost use Rattle.octets.specs.Octets.{fields, with_octets};
 ghost use Rattle.nak.specs.Pdu.{header_octets, identity_octets, data_octets, data_length};
-ghost use Rattle.nak.specs.Inner.{metadata_first, entries};
+ghost use Rattle.nak.specs.Inner.{metadata_first, requests_of};
 
-use nak::{Form, Identity, NAK_CODE};
+use nak::{Asked, Form, Identity, NAK_CODE};
 use nak_header::inner::octet_0;
 use octets::inner::{put, put_all};
-
-fn wide(x: usize) -> u64
-    ensures { result ≡ x }
-{
-    x as u64
-}
 
 // The header's first four octets.
 pub fn put_header(buf: &mut [u8], at: usize, form: Form, i: usize, q: usize, len: usize)
@@ -22,8 +16,8 @@ pub fn put_header(buf: &mut [u8], at: usize, form: Form, i: usize, q: usize, len
     ensures { buf.new ≡ with_octets buf.old at (header_octets form i q len) }
 {
     put(buf, at, 1, octet_0(form));
-    put(buf, at + 1, 2, wide(len));
-    put(buf, at + 3, 1, wide((i - 1) * 16 + (q - 1)));
+    put(buf, at + 1, 2, len as u64);
+    put(buf, at + 3, 1, ((i - 1) * 16 + (q - 1)) as u64);
 }
 
 // Source entity, sequence number, destination entity.
@@ -52,25 +46,14 @@ fn put_metadata(buf: &mut [u8], at: usize, f: usize, metadata: bool) -> usize
     at + f + f
 }
 
-// The data field, its requests the metadata request, where it is asked for, and pairs of a flat list.
-pub fn put_data(
-    buf: &mut [u8],
-    at: usize,
-    f: usize,
-    start: u64,
-    end: u64,
-    metadata: bool,
-    requests: &[u64],
-    first: usize,
-    count: usize,
-)
-    requires { (at + data_length f (length (flat (metadata_first metadata)) + 2 * count) ≤ length buf.old)
-        × (2 * first + 2 * count ≤ length requests.now) }
-    ensures { buf.new ≡ with_octets buf.old at (data_octets f (range start end) (entries metadata requests.now first count)) }
+// The data field of what is asked for, its numbers of f octets.
+pub fn put_data(buf: &mut [u8], at: usize, f: usize, asked: Asked<'_>)
+    requires { at + data_length f (length (flat (requests_of asked))) ≤ length buf.old }
+    ensures { buf.new ≡ with_octets buf.old at (data_octets f (range asked.entry.start asked.entry.end) (requests_of asked.entry)) }
 {
-    put(buf, at, 1, NAK_CODE as u64);
-    put(buf, at + 1, f, start);
-    put(buf, at + 1 + f, f, end);
-    let place = put_metadata(buf, at + 1 + f + f, f, metadata);
-    put_all(buf, place, f, requests, 2 * first, 2 * count);
+    put(buf, at, 1, u64::from(NAK_CODE));
+    put(buf, at + 1, f, asked.start);
+    put(buf, at + 1 + f, f, asked.end);
+    let place = put_metadata(buf, at + 1 + f + f, f, asked.metadata);
+    put_all(buf, place, f, asked.requests, 0, 2 * asked.pairs());
 }

@@ -4,44 +4,52 @@ ghost use Rattle.outcomes.specs.Outcome.{accepted};
 ghost use Rattle.outcomes.specs.Refusal.{refusing};
 ghost use Rattle.outcomes.specs.Checks.{first_of, verdict_case};
 ghost use Rattle.nak.specs.Request.{requests_checks};
-ghost use Rattle.nak_parsing.specs.Parser.{requests_in, refused_parsed};
+ghost use Rattle.nak_parsing.specs.Parser.{requests_in, parsed_with, refused_parsed};
 
 use nak::{Edition, Form, Identity};
-use nak_checks::inner::requests::{is_empty, none_after};
-use nak_parsing::Parsed;
+use nak_checks::inner::requests::check_request;
+use nak_parsing::{Parsed, Said};
 use octets::LargeFileFlag;
 use octets::inner::get;
-use outcomes::{Refusal, Verdict, in_numbers};
+use outcomes::{Refusal, Told};
 
 // Each request of a packet in order: there are `count` from the place `from` on, their numbers of f octets.
-pub fn check_packet(packet: &[u8], from: usize, f: usize, count: usize) -> Verdict
+pub fn check_packet(packet: &[u8], from: usize, f: usize, count: usize) -> Result<(), Refusal>
     requires { (f ≤ 8) × (from + 2 * f * count ≤ length packet.now) }
     ensures { verdict_case result ≡ first_of (requests_checks (requests_in f count (drop from packet.now))) (accepted []) }
 {
-    let mut at = from;
     let mut none = true;
-    let mut i = 0;
-    while i < count {
-        let s = get(packet, at, f);
-        let e = get(packet, at + f, f);
-        if e < s {
-            return Verdict::Refused(Refusal::StartLargerThanEnd(s, e));
-        }
-        if is_empty(none, s, e) {
-            return Verdict::Refused(Refusal::EmptySegment);
-        }
-        none = none_after(none, s, e);
-        at += 2 * f;
-        i += 1;
+    // By index and not by `chunks_exact`: a chunk may not be empty, and f may be 0 here.
+    for i in 0..count {
+        let at = from + 2 * f * i;
+        none = check_request(none, get(packet, at, f), get(packet, at + f, f))?;
     }
-    Verdict::Passed
+    Ok(())
+}
+
+// What is handed back of an accepted packet: the reader of its requests stands at the first.
+pub fn accepted(said: Said) -> Parsed
+    ensures { result ≡ parsed_with said }
+{
+    Parsed {
+        refusal: 0,
+        start: 0,
+        end: 0,
+        identity: said.identity,
+        form: said.form,
+        scope_start: said.scope_start,
+        scope_end: said.scope_end,
+        from: said.from,
+        to: said.to,
+        next: said.from,
+    }
 }
 
 // What is handed back of a refused packet: the number, and the start and end that it carries.
 pub fn refused(edition: Edition, r: Refusal, length: usize) -> Parsed
     ensures { result ≡ refused_parsed edition (refusing r) length }
 {
-    let n = in_numbers(r);
+    let n = Told::from(r);
     Parsed {
         refusal: n.number,
         start: n.first,

@@ -13,31 +13,19 @@ use Rattle.ranges.specs.Range.{Range, range}
 use Rattle.nak.specs.declared.Edition.{Edition}
 use Rattle.nak.specs.declared.Form.{Form}
 use Rattle.nak.specs.declared.Identity.{Identity}
-use Rattle.nak_parsing.specs.declared.Parsed.{Parsed}
+use Rattle.nak_parsing.specs.declared.Said.{Said}
 use Rattle.outcomes.specs.declared.Refusal.TheVariants as refusal
 use Rattle.outcomes.specs.Refusal.{refusing}
 use Rattle.outcomes.specs.declared.Refusal.{Refusal}
 use Rattle.outcomes.proofs.Refusals.{refuses}
-use Rattle.nak_parsing.specs.Parser.{packet_form, packet_identity, scope_in, requests_at, requests_end, read_outcome, accepted_parsed, refused_parsed, parsed_of}
+use Rattle.nak_parsing.specs.Parser.{packet_form, packet_identity, scope_in, requests_at, requests_end, read_outcome, said_in, parsed_with, accepted_parsed, refused_parsed, parsed_of}
 use Rattle.nak_parsing.specs.Parser.{requests_part, requests_ptr}
 use Rattle.nak_parsing.proofs.Reading.{read_of}
 use Rattle.nak_parsing.proofs.OctetsBack.{requests-in}
 
--- an accepted packet of this identity, form and scope, its requests from here to there
-abbrev pub parsed_with : Identity → Form → Range → ℕ → ℕ → Parsed
-parsed_with d g s from to =
-    record {
-      refusal = 0;
-      start = 0;
-      end = 0;
-      identity = d;
-      form = g;
-      scope_start = s.start;
-      scope_end = s.end;
-      from = from;
-      to = to;
-      next = from;
-    }
+-- what a packet of this identity, form and scope says, its requests from here to there
+abbrev pub said_as : Identity → Form → Range → ℕ → ℕ → Said
+said_as d g s from to = record { identity = d; form = g; scope_start = s.start; scope_end = s.end; from = from; to = to }
 
 pub parsed-accepted : (v : Edition) (p : List ℕ) → read_outcome v p ≡ accepted [] → parsed_of v p ≡ accepted_parsed v p
 unfolding parsed_of
@@ -57,17 +45,22 @@ pub short : (v : Edition) (p : List ℕ) → length p < 4 → (refusing refusal.
 unfolding read_outcome
 short v p h = rw (lt-ltb (length p) 4 h)
 
+-- and of a packet that is accepted
+pub parsed_as : (v : Edition) (p : List ℕ) (s : Said) → accepted [] ≡ read_outcome v p → s ≡ said_in v p → parsed_with s ≡ parsed_of v p
+unfolding parsed_of accepted_parsed said_in
+parsed_as v p s e h = rw (← e, h)
+
 -- the values that the code finds are those of the definition
-pub is-parsed :
+pub is_said :
     (v : Edition) (p : List ℕ) {d : Identity} {g : Form} {a b from to : ℕ}
     → d ≡ packet_identity p
     → g ≡ packet_form v p
     → range a b ≡ scope_in p
     → from ≡ requests_at p
     → to ≡ requests_end p
-    → parsed_with d g (range a b) from to ≡ accepted_parsed v p
-unfolding accepted_parsed
-is-parsed v p d g s f e =
+    → said_as d g (range a b) from to ≡ said_in v p
+unfolding said_in
+is_said v p d g s f e =
     let start = ap (λ (r : Range). r.start) s in
     let end = ap (λ (r : Range). r.end) s in
     rw (d, g, start, end, f, e)

@@ -1,4 +1,5 @@
 -- Stepping a reader from where reading left it gives exactly the requests, in order, and then the end, forever.
+use Rattle.std.specs.Prelude.{Option, Some, None}
 use mathlib.Core.Path.{◌≡◌, refl, sym, ap, ◌∙◌}
 use mathlib.Core.Bool.{Bool, true, false}
 use mathlib.Core.List.{List, [], ◌∷◌, ◌++◌}
@@ -12,8 +13,6 @@ use borrow.Author.Tests.{eqb-true, lt-ltb, le-ltb}
 use Rattle.outcomes.specs.Outcome.{Outcome, accepted}
 use Rattle.nak.specs.declared.Edition.{Edition}
 use Rattle.nak_parsing.specs.declared.Found.{Found}
-use Rattle.nak_parsing.specs.declared.Step.{Step}
-use Rattle.nak_parsing.specs.declared.Step.TheVariants.{Request, End}
 use Rattle.nak_parsing.specs.Parser.{field_length_in, requests_at, requests_end, requests_in, packet_requests, read_outcome, parsed_of}
 use Rattle.nak_parsing.specs.Step.{at_end, step_outcome, place_after, step_case, steps, each_request, requests_given}
 use Rattle.nak_parsing.proofs.Reading.{read_of, field-low, end-high}
@@ -67,19 +66,19 @@ pub stepping : (v : Edition) (p : List ℕ) (k : ℕ) → steps p (parsed_of v p
 stepping v p k = stepping_if v p k (eqb (read_outcome v p).number 0) refl
 
 -- two steps with one outcome are equal
-step : Outcome → Step
+step : Outcome → Option (ℕ × ℕ)
 step o = go o.values
   where
-    go : List ℕ → Step
-    go [] = End
-    go (s ∷ vs) = Request s (get_or vs 0 0)
+    go : List ℕ → Option (ℕ × ℕ)
+    go [] = None
+    go (s ∷ vs) = Some (s, (get_or vs 0 0))
 
-step_back : (s : Step) → step (step_case s) ≡ s
+step_back : (s : Option (ℕ × ℕ)) → step (step_case s) ≡ s
 unfolding step
-step_back (Request s e) = refl
-step_back End = refl
+step_back (Some (s, e)) = refl
+step_back None = refl
 
-pub step_injective : (r s : Step) → step_case r ≡ step_case s → r ≡ s
+pub step_injective : (r s : Option (ℕ × ℕ)) → step_case r ≡ step_case s → r ≡ s
 step_injective r s e = sym (step_back r) ∙ ap step e ∙ step_back s
 
 -- Two that meet the contract of `next_at`, or of the reader's `step_from`, for one packet and place are equal. Of `parse` that is
@@ -90,7 +89,7 @@ pub one_found :
     → (step_case s.step ≡ step_outcome p at) × (s.at ≡ place_after p at)
     → r ≡ s
 one_found p at r s a b =
-    ap (λ (z : Step). found z r.at) (step_injective r.step s.step (a.0 ∙ sym b.0)) ∙ ap (found s.step) (a.1 ∙ sym b.1)
+    ap (λ (z : Option (ℕ × ℕ)). found z r.at) (step_injective r.step s.step (a.0 ∙ sym b.0)) ∙ ap (found s.step) (a.1 ∙ sym b.1)
   where
-    found : Step → ℕ → Found
+    found : Option (ℕ × ℕ) → ℕ → Found
     found z n = record { step = z; at = n }

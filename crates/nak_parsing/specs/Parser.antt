@@ -14,6 +14,7 @@ use Rattle.nak.specs.declared.Edition.{Edition}
 use Rattle.nak.specs.declared.Form.{Form}
 use Rattle.nak.specs.declared.Identity.{Identity}
 use Rattle.nak_parsing.specs.declared.Parsed.{Parsed}
+use Rattle.nak_parsing.specs.declared.Said.{Said}
 use Rattle.nak_parsing.specs.declared.inner.Header.{Header}
 use Rattle.nak.specs.Header.{wrong_fixed, flag_of, crc_flag_of, entity_length_of, number_length_of}
 use Rattle.nak.specs.Pdu.{Nak, nak_code, header_length}
@@ -158,6 +159,22 @@ read_checks e p =
 unfoldable pub read_outcome : Edition → List ℕ → Outcome
 read_outcome e p = first_of (read_checks e p) (accepted [])
 
+-- What an accepted packet says, and where its requests stand: from behind the scope to the packet's end, or its trailer.
+unfoldable pub said_in : Edition → List ℕ → Said
+said_in e p =
+    record {
+      identity = packet_identity p;
+      form = packet_form e p;
+      scope_start = (scope_in p).start;
+      scope_end = (scope_in p).end;
+      from = requests_at p;
+      to = requests_end p;
+    }
+
+-- An outcome has no value of it.
+abbrev pub nothing_of : Said → List ℕ
+nothing_of s = []
+
 -- What reading hands back of a refused packet: the number and what it carries, all else 0 but the link's edition; the reader of the requests stands at
 -- its end, the packet's length.
 abbrev pub refused_parsed : Edition → Outcome → ℕ → Parsed
@@ -190,6 +207,22 @@ accepted_parsed e p =
       from = requests_at p;
       to = requests_end p;
       next = requests_at p;
+    }
+
+-- The same, made of what the packet says.
+abbrev pub parsed_with : Said → Parsed
+parsed_with s =
+    record {
+      refusal = 0;
+      start = 0;
+      end = 0;
+      identity = s.identity;
+      form = s.form;
+      scope_start = s.scope_start;
+      scope_end = s.scope_end;
+      from = s.from;
+      to = s.to;
+      next = s.from;
     }
 
 -- Either, by the outcome.

@@ -1,10 +1,8 @@
 -- A step of a reader over a packet (document 01, "Each later step of the reader gives one request or says it is at the end").
-use Rattle.std.specs.Prelude.{ℕ, zero, suc, ◌+◌, ◌*◌, ◌-◌, Bool, cond, List, [], ◌∷◌, ltb}
+use Rattle.std.specs.Prelude.{ℕ, zero, suc, ◌+◌, ◌*◌, ◌-◌, Bool, cond, List, [], ◌∷◌, ltb, Option, Some, None}
 use Rattle.ranges.specs.Range.{Range}
 use Rattle.outcomes.specs.Outcome.{Outcome, accepted, lent}
 use Rattle.nak.specs.declared.Edition.{Edition}
-use Rattle.nak_parsing.specs.declared.Step.{Step}
-use Rattle.nak_parsing.specs.declared.Step.TheVariants.{Request, End}
 use Rattle.nak_parsing.specs.Parser.{field_at, field_length_in, requests_end, packet_requests, read_outcome}
 
 -- Any reader with less than one request left is at its end: fewer than 2F octets from its place to the packet's end or its trailer. F
@@ -21,9 +19,9 @@ unfoldable pub place_after : List ℕ → ℕ → ℕ
 place_after p at = cond (at_end p at) at (at + 2 * field_length_in p)
 
 -- The values of each case; there is no refusal.
-abbrev pub step_case : Step → Outcome
-step_case (Request start end) = accepted (start ∷ end ∷ [])
-step_case End = accepted []
+abbrev pub step_case : Option (ℕ × ℕ) → Outcome
+step_case (Some (start, end)) = accepted (start ∷ end ∷ [])
+step_case None = accepted []
 
 -- What k steps from a place give, one after the other.
 abbrev pub steps : List ℕ → ℕ → ℕ → List Outcome

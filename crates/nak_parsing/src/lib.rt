@@ -5,7 +5,18 @@ use nak::{Form, Identity};
 
 pub mod inner;
 
-// What reading hands back: the refusal's number, 0 where the packet is accepted, and the start and end that it carries; what the
+// What an accepted packet says, and where its requests stand.
+#[derive(Clone, Copy)]
+pub struct Said {
+    pub identity: Identity,
+    pub form: Form,
+    pub scope_start: u64,
+    pub scope_end: u64,
+    pub from: usize,
+    pub to: usize,
+}
+
+// The same in plain values, as C has it: the refusal's number, 0 where the packet is accepted, and the start and end that it carries; what the
 // packet says; where its requests stand, and where a reader of them starts.
 #[derive(Clone, Copy)]
 pub struct Parsed {
@@ -21,16 +32,9 @@ pub struct Parsed {
     pub next: usize,
 }
 
-// What a step of a reader finds.
-#[derive(Clone, Copy)]
-pub enum Step {
-    Request(u64, u64),
-    End,
-}
-
-// And the place after it.
+// What a step of a reader finds: a request, its start and end, or none at the end; and the place after it.
 #[derive(Clone, Copy)]
 pub struct Found {
-    pub step: Step,
+    pub step: Option<(u64, u64)>,
     pub at: usize,
 }

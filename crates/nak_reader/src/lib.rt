@@ -1,4 +1,4 @@
-// A reader over the caller's octets. The struct is taken apart in few, thin functions; the work is in `nak_parser`.
+// A reader over the caller's octets. The work is in `nak_parser`.
 #![tactic(auto)]
 
 ghost use Rattle.std.specs.Prelude.{◌≡◌};
@@ -7,7 +7,7 @@ ghost use Rattle.nak_parsing.specs.Step.{step_case, step_outcome, place_after};
 ghost use Rattle.nak_reader.specs.Reader.{reader_of, reader_after};
 
 use nak::Edition;
-use nak_parsing::{Found, Parsed, Step};
+use nak_parsing::{Found, Parsed};
 
 // The caller's packet, and the place of the next request.
 #[derive(Clone, Copy)]
@@ -28,7 +28,7 @@ pub struct ReadNak<'a> {
 // What a step hands back: one request or the end, and the reader after it.
 #[derive(Clone, Copy)]
 pub struct Taken<'a> {
-    pub step: Step,
+    pub step: Option<(u64, u64)>,
     pub reader: NakReader<'a>,
 }
 
@@ -66,7 +66,7 @@ pub fn next_request<'a>(reader: NakReader<'a>) -> Taken<'a>
     }
 }
 
-// A step of the reader at a place of a packet, with plain parameters: whoever calls this needs no walk.
+// A step of the reader that stands at a place of a packet.
 pub fn step_from(packet: &[u8], at: usize) -> Found
     ensures { (step_case result.step ≡ step_outcome packet.now at) × (result.at ≡ place_after packet.now at) }
 {
@@ -77,10 +77,9 @@ pub fn step_from(packet: &[u8], at: usize) -> Found
     }
 }
 
-// What `read` says of a packet, in plain values: whoever calls this needs no walk.
+// What `read` says of a packet.
 pub fn read_fields(packet: &[u8], edition: Edition) -> Parsed
     ensures { result ≡ parsed_of edition packet.now }
 {
-    let got = read(packet, edition);
-    got.parsed
+    read(packet, edition).parsed
 }

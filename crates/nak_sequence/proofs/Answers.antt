@@ -22,7 +22,8 @@ use Rattle.nak.specs.Writer.{largest_pdu}
 use Rattle.reception.specs.Record.{record_checks, Passed}
 use Rattle.reception.specs.declared.Reception.{Reception}
 use Rattle.reception.proofs.Sound.{sound, none-split}
-use Rattle.sequence.specs.Sequence.{Order, is_bad_size, is_too_large, asked, sent, reported, order_checks, sequence_checks, sequence_outcome, sequence_buffer}
+use Rattle.sequence.specs.Sequence.{is_bad_size, is_too_large, asked, sent, reported, order_checks, sequence_checks, sequence_outcome, sequence_buffer}
+use Rattle.sequence.specs.declared.Order.{Order}
 use Rattle.sequence.proofs.Accepted.{Checked, seq_sent}
 
 -- what the checks that are not met say in numbers

@@ -1,34 +1,25 @@
 // Inner: the PDUs of a sequence, written one after the other. Each function asks for what the call has checked.
 ghost use Rattle.std.specs.Prelude.{◌≡◌, ◌||◌, ◌+◌, ◌*◌, ◌-◌, ◌<◌, ◌≤◌, min, ltb, length};
 ghost use Rattle.octets.specs.Octets.{with_octets};
-ghost use Rattle.nak.specs.Inner.{GoodLengths};
-ghost use Rattle.nak.specs.Pdu.{pdu, is_too_small};
+ghost use Rattle.nak.specs.Inner.{GoodLengths, entries};
+ghost use Rattle.nak.specs.Pdu.{pdu, saying, is_too_small};
 ghost use Rattle.ranges.specs.Store.{most_pairs};
 ghost use Rattle.nak.specs.Writer.{largest_pdu};
 ghost use Rattle.sequence.specs.Entries.{asking_for, entries_in, end_of, scope_start, rounded_up, nak_at, naks, octets_of, scope_end_of};
 ghost use Rattle.nak_sequence.specs.Inner.{entry_count, Listed};
 
-use nak::{Form, Identity, LARGEST_PDU};
+use nak::{Asked, LARGEST_PDU};
 use nak_checks::inner::lengths::too_small;
 use nak_writer::inner::write_at;
 use reception::Reception;
-
-// The smaller of two numbers.
-pub fn smaller(a: usize, b: usize) -> usize
-    ensures { result ≡ min a b }
-{
-    if a < b { a } else { b }
-}
+use sequence::Order;
 
 // Whether the largest PDU is too large, or has no room for one request.
-pub fn bad_size(identity: Identity, form: Form, largest: usize) -> bool
-    requires { GoodLengths identity }
-    ensures { result ≡ (ltb largest_pdu largest || is_too_small form identity largest) }
+pub fn bad_size(order: Order) -> bool
+    requires { GoodLengths order.identity }
+    ensures { result ≡ (ltb largest_pdu order.largest || is_too_small order.form order.identity order.largest) }
 {
-    if LARGEST_PDU < largest {
-        return true;
-    }
-    too_small(identity, form, largest)
+    LARGEST_PDU < order.largest || too_small(order.identity, order.form, order.largest)
 }
 
 // E: how many entries there are.
@@ -80,57 +71,80 @@ fn scope_end(rec: Reception, list: &[u64], k: usize, f: usize) -> u64
     rec.progress
 }
 
+// A PDU of this scope, written from place `at` on: the metadata request, where it is asked for, and `count` pairs of the list from
+// pair `first` on. Hands back the place behind it.
+fn write_from(
+    buf: &mut [u8],
+    at: usize,
+    order: Order,
+    start: u64,
+    end: u64,
+    metadata: bool,
+    list: &[u64],
+    first: usize,
+    count: usize,
+) -> usize
+    requires { GoodLengths order.identity × (2 * first + 2 * count ≤ length list.now)
+        × (at + length (pdu (saying order.form order.identity start end (entries metadata list.now first count))) ≤ length buf.old) }
+    ensures { (result ≡ at + length (pdu (saying order.form order.identity start end (entries metadata list.now first count))))
+        × (buf.new ≡ with_octets buf.old at (pdu (saying order.form order.identity start end (entries metadata list.now first count)))) }
+{
+    let requests = &list[2 * first..2 * (first + count)];
+    let asked = Asked {
+        start,
+        end,
+        metadata,
+        requests,
+    };
+    write_at(buf, at, order.identity, order.form, asked)
+}
+
 // The PDU from entry f on, written from place `at` on; hands back the place behind it.
 fn write_pdu(
     buf: &mut [u8],
     at: usize,
     rec: Reception,
     list: &[u64],
-    identity: Identity,
-    form: Form,
+    order: Order,
     k: usize,
     f: usize,
 ) -> usize
-    requires good_lengths { GoodLengths identity × (Listed rec list.now × ((1 ≤ k) × ((k ≤ largest_pdu) × (f < entry_count rec)))) }
-    requires f_in_bounds { at + length (pdu (nak_at (asking_for rec list.now form identity k) f)) ≤ length buf.old }
-    ensures value { result ≡ at + length (pdu (nak_at (asking_for rec list.now form identity k) f)) }
-    ensures buf_after { buf.new ≡ with_octets buf.old at (pdu (nak_at (asking_for rec list.now form identity k) f)) }
+    requires good_lengths { GoodLengths order.identity × (Listed rec list.now × ((1 ≤ k) × ((k ≤ largest_pdu) × (f < entry_count rec)))) }
+    requires f_in_bounds { at + length (pdu (nak_at (asking_for rec list.now order.form order.identity k) f)) ≤ length buf.old }
+    ensures value { result ≡ at + length (pdu (nak_at (asking_for rec list.now order.form order.identity k) f)) }
+    ensures buf_after { buf.new ≡ with_octets buf.old at (pdu (nak_at (asking_for rec list.now order.form order.identity k) f)) }
 {
     let start = scope_start(rec, list, f);
     let end = scope_end(rec, list, k, f);
-    let m = smaller(k, entry_count(rec) - f);
+    let m = k.min(entry_count(rec) - f);
     if rec.missing {
         if f == 0 {
-            return write_at(buf, at, identity, form, start, end, true, list, 0, m - 1);
+            return write_from(buf, at, order, start, end, true, list, 0, m - 1);
         }
-        return write_at(buf, at, identity, form, start, end, false, list, f - 1, m);
+        return write_from(buf, at, order, start, end, false, list, f - 1, m);
     }
-    write_at(buf, at, identity, form, start, end, false, list, f, m)
+    write_from(buf, at, order, start, end, false, list, f, m)
 }
 
-// The PDUs from entry `from` on, `pdus` of them, written from the buffer's front; hands back the octets written.
+// The PDUs from the order's entry on, `pdus` of them, written from the buffer's front; hands back the octets written.
 pub fn write_pdus(
     buf: &mut [u8],
     rec: Reception,
     list: &[u64],
-    identity: Identity,
-    form: Form,
+    order: Order,
     k: usize,
-    from: usize,
     pdus: usize,
 ) -> usize
-    requires good_lengths { GoodLengths identity × (Listed rec list.now × ((1 ≤ k) × ((k ≤ largest_pdu) × (pdus ≤ rounded_up (entry_count rec - from) k)))) }
-    requires pdus_in_bounds { length (octets_of (naks (asking_for rec list.now form identity k) from pdus)) ≤ length buf.old }
-    ensures value { result ≡ length (octets_of (naks (asking_for rec list.now form identity k) from pdus)) }
-    ensures buf_after { buf.new ≡ with_octets buf.old 0 (octets_of (naks (asking_for rec list.now form identity k) from pdus)) }
+    requires good_lengths { GoodLengths order.identity × (Listed rec list.now × ((1 ≤ k) × ((k ≤ largest_pdu) × (pdus ≤ rounded_up (entry_count rec - order.cursor) k)))) }
+    requires pdus_in_bounds { length (octets_of (naks (asking_for rec list.now order.form order.identity k) order.cursor pdus)) ≤ length buf.old }
+    ensures value { result ≡ length (octets_of (naks (asking_for rec list.now order.form order.identity k) order.cursor pdus)) }
+    ensures buf_after { buf.new ≡ with_octets buf.old 0 (octets_of (naks (asking_for rec list.now order.form order.identity k) order.cursor pdus)) }
 {
     let mut at = 0;
-    let mut f = from;
-    let mut n = 0;
-    while n < pdus {
-        at = write_pdu(buf, at, rec, list, identity, form, k, f);
+    let mut f = order.cursor;
+    for _ in 0..pdus {
+        at = write_pdu(buf, at, rec, list, order, k, f);
         f += k;
-        n += 1;
     }
     at
 }

@@ -4,95 +4,83 @@
 ghost use Rattle.std.specs.Prelude.{◌≡◌, [], length};
 ghost use Rattle.outcomes.specs.Outcome.{accepted};
 ghost use Rattle.outcomes.specs.Checks.{verdict_case, first_of};
-ghost use Rattle.sequence.specs.Sequence.{sequence_checks, sequence_case, sequence_outcome, sequence_buffer, order};
+ghost use Rattle.reception.specs.Record.{Passed};
+ghost use Rattle.sequence.specs.Sequence.{order_checks, sequence_checks, sequence_case, sequence_outcome, sequence_buffer};
 
-use nak::{Form, Identity};
 use nak_checks::inner::bad_identity;
 use nak_checks::inner::lengths::per_pdu;
-use outcomes::{Refusal, Verdict};
+use outcomes::Refusal;
 use reception::Reception;
 use record_checks::inner::record_checks;
-use sequence::SequenceAnswer;
+use sequence::{Order, Sent};
 
 pub mod inner;
 
 // The most PDUs that a call writes.
 const LARGEST_BUDGET: usize = 16;
 
-// The checks of a call, `given` the length of its buffer.
+// The checks of the order itself, for a record that has passed its own; `given` is the length of the buffer.
+fn order_checks(rec: Reception, list: &[u64], order: Order, given: usize) -> Result<(), Refusal>
+    requires { Passed list.now rec }
+    ensures { verdict_case result ≡ first_of (order_checks rec list.now order given) (accepted []) }
+{
+    if bad_identity(order.identity) {
+        return Err(Refusal::BadIdentity);
+    }
+    if order.form.reserved_set() {
+        return Err(Refusal::BadHeader);
+    }
+    if inner::bad_size(order) {
+        return Err(Refusal::PduSize);
+    }
+    // No number of a sound record's list is above progress.
+    if order.form.largest() < rec.progress {
+        return Err(Refusal::LargeSegmentForNormalFileSize);
+    }
+    if inner::entry_count(rec) < order.cursor {
+        return Err(Refusal::BadCursor);
+    }
+    if LARGEST_BUDGET < order.budget {
+        return Err(Refusal::BudgetTooLarge);
+    }
+    let needed = order.budget * order.largest;
+    if given < needed {
+        return Err(Refusal::BufferSizeMissmatch(needed, given));
+    }
+    Ok(())
+}
+
+// The checks of a call.
 pub fn sequence_checks(
     rec: Reception,
     list: &[u64],
-    identity: Identity,
-    form: Form,
-    largest: usize,
-    cursor: usize,
-    budget: usize,
+    order: Order,
     given: usize,
-) -> Verdict
-    ensures { verdict_case result ≡ first_of (sequence_checks rec list.now (order identity form largest cursor budget) given) (accepted []) }
+) -> Result<(), Refusal>
+    ensures { verdict_case result ≡ first_of (sequence_checks rec list.now order given) (accepted []) }
 {
-    let found = record_checks(rec, list);
-    if let Verdict::Refused(r) = found {
-        return Verdict::Refused(r);
-    }
-    if bad_identity(identity) {
-        return Verdict::Refused(Refusal::BadIdentity);
-    }
-    if form.reserved_set() {
-        return Verdict::Refused(Refusal::BadHeader);
-    }
-    if inner::bad_size(identity, form, largest) {
-        return Verdict::Refused(Refusal::PduSize);
-    }
-    // No number of a sound record's list is above progress.
-    if form.largest() < rec.progress {
-        return Verdict::Refused(Refusal::LargeSegmentForNormalFileSize);
-    }
-    let e = inner::entry_count(rec);
-    if e < cursor {
-        return Verdict::Refused(Refusal::BadCursor);
-    }
-    if LARGEST_BUDGET < budget {
-        return Verdict::Refused(Refusal::BudgetTooLarge);
-    }
-    let needed = budget * largest;
-    if given < needed {
-        return Verdict::Refused(Refusal::BufferSizeMissmatch(needed, given));
-    }
-    Verdict::Passed
+    record_checks(rec, list)?;
+    order_checks(rec, list, order, given)
 }
 
 // Writes at most `budget` PDUs of at most `largest` octets back to back, from entry `cursor` on.
 pub fn write_nak_sequence(
     rec: Reception,
     list: &[u64],
-    identity: Identity,
-    form: Form,
-    largest: usize,
-    cursor: usize,
-    budget: usize,
+    order: Order,
     buf: &mut [u8],
-) -> SequenceAnswer
-    ensures result_value { sequence_case result ≡ sequence_outcome rec list.now (order identity form largest cursor budget) (length buf.old) }
-    ensures buf_after { buf.new ≡ sequence_buffer rec list.now (order identity form largest cursor budget) buf.old }
+) -> Result<Sent, Refusal>
+    ensures result_value { sequence_case result ≡ sequence_outcome rec list.now order (length buf.old) }
+    ensures buf_after { buf.new ≡ sequence_buffer rec list.now order buf.old }
 {
-    let found = sequence_checks(
-        rec,
-        list,
-        identity,
-        form,
-        largest,
-        cursor,
-        budget,
-        buf.len(),
-    );
-    if let Verdict::Refused(r) = found {
-        return SequenceAnswer::Refused(r);
-    }
-    let k = per_pdu(identity, form, largest);
+    sequence_checks(rec, list, order, buf.len())?;
+    let k = per_pdu(order.identity, order.form, order.largest);
     let e = inner::entry_count(rec);
-    let pdus = inner::smaller(budget, (e - cursor + (k - 1)) / k);
-    let octets = inner::write_pdus(buf, rec, list, identity, form, k, cursor, pdus);
-    SequenceAnswer::Sent(pdus, octets, inner::smaller(e, cursor + budget * k))
+    let pdus = order.budget.min((e - order.cursor + (k - 1)) / k);
+    let octets = inner::write_pdus(buf, rec, list, order, k, pdus);
+    Ok(Sent {
+        pdus,
+        octets,
+        cursor: e.min(order.cursor + order.budget * k),
+    })
 }

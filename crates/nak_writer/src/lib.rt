@@ -9,12 +9,11 @@ ghost use Rattle.nak.specs.Pdu.{saying};
 ghost use Rattle.nak.specs.Writer.{write_case, write_checks, write_outcome, written};
 
 use crate::inner::write_at;
-use nak::writer::WriteAnswer;
-use nak::{Form, Identity, LARGEST_PDU};
+use nak::{Asked, Form, Identity, LARGEST_PDU};
 use nak_checks::inner::bad_identity;
 use nak_checks::inner::lengths::pdu_length;
 use nak_checks::inner::requests::{any_number_above, bad_list, check_requests};
-use outcomes::{Refusal, Verdict};
+use outcomes::Refusal;
 
 pub mod inner;
 
@@ -26,36 +25,33 @@ pub fn write_checks(
     end: u64,
     requests: &[u64],
     given: usize,
-) -> Verdict
+) -> Result<(), Refusal>
     ensures { verdict_case result ≡ first_of (write_checks requests.now (saying form identity start end (pairs requests.now)) given) (accepted []) }
 {
     if bad_list(requests) {
-        return Verdict::Refused(Refusal::BadStore);
+        return Err(Refusal::BadStore);
     }
     if bad_identity(identity) {
-        return Verdict::Refused(Refusal::BadIdentity);
+        return Err(Refusal::BadIdentity);
     }
     if form.reserved_set() {
-        return Verdict::Refused(Refusal::BadHeader);
+        return Err(Refusal::BadHeader);
     }
     if end < start {
-        return Verdict::Refused(Refusal::ScopeReversed);
+        return Err(Refusal::ScopeReversed);
     }
-    let found = check_requests(requests);
-    if let Verdict::Refused(r) = found {
-        return Verdict::Refused(r);
-    }
+    check_requests(requests)?;
     if any_number_above(form.largest(), start, end, requests) {
-        return Verdict::Refused(Refusal::LargeSegmentForNormalFileSize);
+        return Err(Refusal::LargeSegmentForNormalFileSize);
     }
     let total = pdu_length(identity, form, requests.len());
     if LARGEST_PDU < total {
-        return Verdict::Refused(Refusal::PduSize);
+        return Err(Refusal::PduSize);
     }
     if given != total {
-        return Verdict::Refused(Refusal::BufferSizeMissmatch(total, given));
+        return Err(Refusal::BufferSizeMissmatch(total, given));
     }
-    Verdict::Passed
+    Ok(())
 }
 
 // Writes the NAK PDU of this identity, form, scope (start and end) and list of requests, a flat list of pairs read to its end.
@@ -66,17 +62,16 @@ pub fn write(
     end: u64,
     requests: &[u64],
     buf: &mut [u8],
-) -> WriteAnswer
+) -> Result<usize, Refusal>
     ensures result_value { write_case result ≡ write_outcome requests.now (saying form identity start end (pairs requests.now)) (length buf.old) }
     ensures buf_after { buf.new ≡ written requests.now (saying form identity start end (pairs requests.now)) buf.old }
 {
-    let found = write_checks(identity, form, start, end, requests, buf.len());
-    if let Verdict::Refused(r) = found {
-        return WriteAnswer::Refused(r);
-    }
-    let count = requests.len() / 2;
-    let octets = write_at(
-        buf, 0, identity, form, start, end, false, requests, 0, count,
-    );
-    WriteAnswer::Written(octets)
+    write_checks(identity, form, start, end, requests, buf.len())?;
+    let asked = Asked {
+        start,
+        end,
+        metadata: false,
+        requests,
+    };
+    Ok(write_at(buf, 0, identity, form, asked))
 }

@@ -4,13 +4,15 @@ use lib.Dec.{eqb}
 use borrow.Author.Tests.{eq-eqb, ne_eqb, ltb-true, ltb-false, lt-ltb}
 use mathlib.Core.Path.{refl, sym, ap, ◌≡◌, ap₂, ◌∙◌}
 use mathlib.Core.List.{List, ◌∷◌, ◌++◌, append_assoc, append-nil}
-use Prim.Native.Nat.{ℕ, suc, ◌+◌, ◌*◌, ◌/◌, ◌%◌, ◌^◌, ◌≤◌, ◌<◌}
-use native.Mathlib.Nat.{add-zero, add-suc, pow-suc, pow-le-pow_right, mul-suc, mul-le-mul_left, div-div-eq-div-mul, one-le-pow, div-eq_of_lt, lt-div-mul-add, lt_irrefl}
+use Prim.Native.Nat.{ℕ, zero, suc, ◌+◌, ◌*◌, ◌/◌, ◌%◌, ◌^◌, ◌≤◌, ◌<◌}
+use native.Mathlib.Nat.{add-zero, add-suc, pow-suc, pow-le-pow_right, mul-suc, mul-le-mul_left, one-le-pow, div-eq_of_lt, lt-div-mul-add, lt_irrefl}
 use native.Mathlib.Nat.{lt_of_lt_of_le, zero-mul, zero-add}
 use native.Mathlib.Numerals.{add-one}
 use native.Mathlib.Omega.{arith}
-use lib.ListN.{length, get_or, take, drop, set, length-set, length-drop, take-append-drop}
-use lib.Seq.{drop-cons, take-suc, length-take-le, take-set-le, drop-set-lt, get_or-drop, get_or-set_same}
+use lib.ListN.{length, get_or, take, drop, set, length-set, take-append-drop}
+use lib.Seq.{drop-cons, length-take-le, take-set-le, drop-set-lt, get_or-set_same}
+use Rattle.std.proofs.lemmas.Nat.{pow-add}
+use Rattle.std.proofs.lemmas.List.{take_more}
 use Rattle.octets.specs.Octets.{field, fields, fits, number, with_octets}
 use Rattle.octets.proofs.Fields.{length-field, number_snoc, length_fields, fields-append}
 use Rattle.octets.proofs.Over.{over-join}
@@ -35,40 +37,30 @@ put-turn xs at f v h =
     rw (take-set-le at xs (at + f) (v % 256) (omega arith), d) (simp append_assoc)
 
 -- one octet more is got
-pub get_turn : (xs : List ℕ) (at i : ℕ) → at + i < length xs → number (take i (drop at xs)) * 256 + get_or xs (at + i) 0 ≡ number (take (i + 1) (drop at xs))
-get_turn xs at i h =
-    let k : i < length (drop at xs) = rw length-drop (omega arith) in
-    rw (add-one, take-suc (drop at xs) i 0 k, number_snoc (take i (drop at xs)), get_or-drop at xs i 0)
+pub get_turn : (os : List ℕ) (i : ℕ) → i < length os → number (take i os) * 256 + get_or os i 0 ≡ number (take (i + 1) os)
+get_turn os i h = rw (take_more os i 0 h, number_snoc (take i os)) refl
 
 -- a number of i octets and one octet more make a number of i + 1
 pub room : (i v o : ℕ) → v < 256 ^ i → o < 256 → v * 256 + o < 256 ^ (i + 1)
 room i v o k m = rw (add-one, pow-suc) (omega arith)
 
--- which has at most 64 bits
-pub room-more : (i v o : ℕ) → i < 8 → v < 256 ^ i → o < 256 → v * 256 + o < 18446744073709551616
-room-more i v o h k m =
-    let p : 256 ^ (i + 1) ≤ 256 ^ 8 = pow-le-pow_right {n = 256} (omega arith) {i = i + 1} {j = 8} (omega arith) in
-    omega (arith, room i v o k m)
-
 -- one number more is put
-pub put-all-turn : (xs list : List ℕ) (at f from i : ℕ) → at + (f * i + f) ≤ length xs → from + i < length list
-    → with_octets (with_octets xs at (fields f (take i (drop from list)))) (at + f * i) (field f (get_or list (from + i) 0)) ≡ with_octets xs at (fields f (take (i + 1) (drop from list)))
-put-all-turn xs list at f from i h k =
-    let d = length-drop from list in
-    let vs = take i (drop from list) in
-    let n : length vs ≡ i = length-take-le i (drop from list) (omega arith) in
-    let l : length (fields f vs) ≡ f * i = rw n at (length_fields f vs) in
-    let e : fields f (take (i + 1) (drop from list)) ≡ fields f vs ++ field f (get_or list (from + i) 0) = rw
-    (add-one, take-suc (drop from list) i 0 (omega arith), fields-append f vs, append-nil, get_or-drop from list i 0) in
-    over-join xs at (at + f * i) (fields f vs) (field f (get_or list (from + i) 0)) (omega arith) (omega arith) ∙ ap (λ (os : List ℕ). with_octets xs at os) (sym e)
+pub put-all-turn : (xs vs : List ℕ) (at f i : ℕ) → at + (f * i + f) ≤ length xs → i < length vs
+    → with_octets (with_octets xs at (fields f (take i vs))) (at + f * i) (field f (get_or vs i 0)) ≡ with_octets xs at (fields f (take (i + 1) vs))
+put-all-turn xs vs at f i h k =
+    let n : length (take i vs) ≡ i = length-take-le i vs (omega arith) in
+    let l : length (fields f (take i vs)) ≡ f * i = rw n at (length_fields f (take i vs)) in
+    let e : fields f (take (i + 1) vs) ≡ fields f (take i vs) ++ field f (get_or vs i 0) = rw (take_more vs i 0 k, fields-append f (take i vs), append-nil) refl in
+    over-join xs at (at + f * i) (fields f (take i vs)) (field f (get_or vs i 0)) (omega arith) (omega arith) ∙ ap (λ (os : List ℕ). with_octets xs at os) (sym e)
 
 -- the octets of n numbers leave room for the one at i
 pub room-all : (f i n : ℕ) → i < n → f * i + f ≤ f * n
 room-all f i n h = rw mul-suc at (mul-le-mul_left {m = suc i} {n = n} f h)
 
--- a number divided once more
-pub divide_turn : (v i : ℕ) → v / 256 ^ i / 256 ≡ v / 256 ^ (i + 1)
-divide_turn v i = div-div-eq-div-mul v (256 ^ i) 256 ∙ rw (add-one, pow-suc)
+-- the bits of f octets
+pub octet-bits : (f : ℕ) → 2 ^ (8 * f) ≡ 256 ^ f
+octet-bits zero = refl
+octet-bits (suc f) = rw (mul-suc, pow-add, octet-bits f) (sym (pow-suc 256 f))
 
 -- a number fits if nothing is left of it
 pub fits_if_none : (f v : ℕ) → eqb (v / 256 ^ f) 0 ≡ fits f v

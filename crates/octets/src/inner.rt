@@ -2,23 +2,16 @@
 ghost use Rattle.std.specs.Prelude.{◌≡◌, ◌+◌, ◌*◌, ◌≤◌, length, take, drop};
 ghost use Rattle.octets.specs.Octets.{field, fields, number, with_octets};
 
-fn wide(octet: u8) -> u64
-    ensures { result ≡ octet }
-{
-    octet as u64
-}
-
-// The number v goes into the f octets from `at` on, the last octet first.
+// The number v goes into the f octets from `at` on, the last octet first. By place: of what is written through iter_mut().rev() no
+// clause says what the buffer ends as.
 pub fn put(buf: &mut [u8], at: usize, f: usize, v: u64)
     requires { at + f ≤ length buf.old }
     ensures { buf.new ≡ with_octets buf.old at (field f v) }
 {
-    let mut left = f;
     let mut rest = v;
-    while 0 < left {
-        left -= 1;
-        buf[at + left] = (rest % 256) as u8;
-        rest = rest / 256;
+    for i in (0..f).rev() {
+        buf[at + i] = (rest % 256) as u8;
+        rest /= 256;
     }
 }
 
@@ -27,11 +20,9 @@ pub fn get(buf: &[u8], at: usize, f: usize) -> u64
     requires { (f ≤ 8) × (at + f ≤ length buf.now) }
     ensures { result ≡ number (take f (drop at buf.now)) }
 {
-    let mut v: u64 = 0;
-    let mut i = 0;
-    while i < f {
-        v = v * 256 + wide(buf[at + i]);
-        i += 1;
+    let mut v = 0;
+    for &octet in &buf[at..at + f] {
+        v = v * 256 + u64::from(octet);
     }
     v
 }
@@ -42,10 +33,8 @@ pub fn put_all(buf: &mut [u8], at: usize, f: usize, list: &[u64], from: usize, n
     ensures { buf.new ≡ with_octets buf.old at (fields f (take n (drop from list.now))) }
 {
     let mut place = at;
-    let mut i = 0;
-    while i < n {
-        put(buf, place, f, list[from + i]);
+    for &v in &list[from..from + n] {
+        put(buf, place, f, v);
         place += f;
-        i += 1;
     }
 }

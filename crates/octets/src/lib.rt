@@ -11,16 +11,7 @@ pub mod inner;
 pub fn does_fit(f: usize, v: u64) -> bool
     ensures { result ≡ fits f v }
 {
-    if 8 <= f {
-        return true;
-    }
-    let mut rest = v;
-    let mut i = 0;
-    while i < f {
-        rest = rest / 256;
-        i += 1;
-    }
-    rest == 0
+    8 <= f || v >> (8 * f) == 0
 }
 
 #[derive(Clone, Copy)]
@@ -45,8 +36,8 @@ impl LargeFileFlag {
         ensures { result ≡ largest_of self }
     {
         match self {
-            LargeFileFlag::Normal => 4294967295,
-            LargeFileFlag::Large => 18446744073709551615,
+            LargeFileFlag::Normal => u64::from(u32::MAX),
+            LargeFileFlag::Large => u64::MAX,
         }
     }
 }

@@ -1,5 +1,6 @@
 -- What a call answers and leaves at its two ends: the checks refuse and nothing lent changes, or they pass and what is behind them
 -- decides. `v` is what the function of the checks answered.
+use Rattle.std.specs.Prelude.{Result, Ok, Err, ⊤}
 use mathlib.Core.Path.{◌≡◌, refl, sym, ap, ◌∙◌}
 use mathlib.Core.Bool.{Bool, true, false, cond}
 use mathlib.Core.List.{List, [], ◌∷◌}
@@ -8,21 +9,19 @@ use Rattle.outcomes.specs.Outcome.{Outcome, accepted, lent}
 use Rattle.outcomes.specs.Refusal.{refusing}
 use Rattle.outcomes.specs.Checks.{Check, first_of, NoneOf, verdict_case}
 use Rattle.outcomes.specs.declared.Refusal.{Refusal}
-use Rattle.outcomes.specs.declared.Verdict.{Verdict}
-use Rattle.outcomes.specs.declared.Verdict.TheVariants as verdict
 use Rattle.outcomes.proofs.FirstOf.{first-refused, first-none, none_of}
 use Rattle.outcomes.proofs.Refusals.{lent-refused}
 
-pub checks-passed : (cs : List Check) (v : Verdict) → verdict_case v ≡ first_of cs (accepted []) → v ≡ verdict.Passed → NoneOf cs
+pub checks-passed : (cs : List Check) (v : Result ⊤ Refusal) → verdict_case v ≡ first_of cs (accepted []) → v ≡ (Ok tt) → NoneOf cs
 checks-passed cs v e f = none_of cs (ap verdict_case (sym f) ∙ e)
 
-pub checks-refused : (cs : List Check) (behind : Outcome) (v : Verdict) (r : Refusal) → verdict_case v ≡ first_of cs (accepted []) → v ≡ verdict.Refused r
+pub checks-refused : (cs : List Check) (behind : Outcome) (v : Result ⊤ Refusal) (r : Refusal) → verdict_case v ≡ first_of cs (accepted []) → v ≡ Err r
     → refusing r ≡ first_of cs behind
 checks-refused cs behind v r e f = first-refused cs r behind (ap verdict_case (sym f) ∙ e)
 
 -- the same with what is lent
-pub refused_end : {A : Type 0} (cs : List Check) (behind : Outcome) (v : Verdict) (r : Refusal) (new old : A)
-    → verdict_case v ≡ first_of cs (accepted []) → v ≡ verdict.Refused r
+pub refused_end : {A : Type 0} (cs : List Check) (behind : Outcome) (v : Result ⊤ Refusal) (r : Refusal) (new old : A)
+    → verdict_case v ≡ first_of cs (accepted []) → v ≡ Err r
     → (refusing r ≡ first_of cs behind) × (old ≡ lent (first_of cs behind) new old)
 refused_end cs behind v r new old e f =
     let g = checks-refused cs behind v r e f in

@@ -1,4 +1,5 @@
 pub mod Apart
 pub mod Refusals
+pub mod Answered
 pub mod FirstOf
 pub mod Ends

@@ -1,10 +1,9 @@
 -- The checks of a call: tests in order, each with the refusal that it gives.
-use Rattle.std.specs.Prelude.{◌≡◌, Bool, false, cond, List, [], ◌∷◌}
+use Rattle.std.specs.Prelude.{◌≡◌, Bool, false, cond, List, [], ◌∷◌, Result, ⊤}
 use Rattle.outcomes.specs.Outcome.{Outcome, accepted}
 use Rattle.outcomes.specs.Refusal.{refusing}
+use Rattle.outcomes.specs.Answered.{answered, nothing}
 use Rattle.outcomes.specs.declared.Refusal.{Refusal}
-use Rattle.outcomes.specs.declared.Verdict.{Verdict}
-use Rattle.outcomes.specs.declared.Verdict.TheVariants as verdict
 
 abbrev pub Check : Type 0
 Check = Bool × Refusal
@@ -20,6 +19,5 @@ NoneOf [] = Unit {0}
 NoneOf (c ∷ cs) = (c.0 ≡ false) × NoneOf cs
 
 -- What the function of a call's checks says, as an outcome.
-abbrev pub verdict_case : Verdict → Outcome
-verdict_case verdict.Passed = accepted []
-verdict_case (verdict.Refused r) = refusing r
+abbrev pub verdict_case : Result ⊤ Refusal → Outcome
+verdict_case = answered nothing

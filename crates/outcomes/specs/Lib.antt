@@ -1,4 +1,5 @@
 pub mod Outcome
 pub mod Refusal
+pub mod Answered
 pub mod Checks
 pub mod Told

@@ -1,4 +1,4 @@
-// The refusals of every call, once, in numbers too, and what a chain of checks says.
+// The refusals of every call, once, and in numbers too.
 #![tactic(auto)]
 
 ghost use Rattle.std.specs.Prelude.{◌≡◌, [], ◌∷◌};
@@ -7,7 +7,7 @@ ghost use Rattle.outcomes.specs.Refusal.{refusing};
 ghost use Rattle.outcomes.specs.Told.{told_of};
 
 // A refusal with what it carries. Its number is in specs/Refusal.antt, its condition in docs/REFUSALS.md.
-#[derive(Clone, Copy)]
+#[derive(Clone, Copy, Debug, PartialEq, Eq)]
 pub enum Refusal {
     StoreFull,
     EmptySegment,
@@ -40,13 +40,6 @@ pub enum Refusal {
     BadPlan(usize, usize),
 }
 
-// What the checks of a call say: it may go on, or the refusal.
-#[derive(Clone, Copy)]
-pub enum Verdict {
-    Passed,
-    Refused(Refusal),
-}
-
 // A refusal in numbers: its own, and the values that it carries, 0 where there is none.
 #[derive(Clone, Copy)]
 pub struct Told {
@@ -59,12 +52,7 @@ pub struct Told {
 fn bare(number: u64) -> Told
     ensures { result ≡ told_of (refused number []) }
 {
-    Told {
-        number,
-        first: 0,
-        second: 0,
-        third: 0,
-    }
+    pair(number, 0, 0)
 }
 
 fn pair(number: u64, first: u64, second: u64) -> Told
@@ -78,34 +66,36 @@ fn pair(number: u64, first: u64, second: u64) -> Told
     }
 }
 
-pub fn in_numbers(r: Refusal) -> Told
-    ensures { result ≡ told_of (refusing r) }
-{
-    match r {
-        Refusal::StoreFull => bare(1),
-        Refusal::EmptySegment => bare(2),
-        Refusal::StartLargerThanEnd(s, e) => pair(3, s, e),
-        Refusal::LargeFileSegmentNotSupported => bare(4),
-        Refusal::InvalidSegmentBoundary(s, e) => pair(5, s, e),
-        Refusal::BufferSizeMissmatch(needed, given) => pair(6, needed as u64, given as u64),
-        Refusal::LargeSegmentForNormalFileSize => bare(7),
-        Refusal::NotCoalesced => bare(8),
-        Refusal::RangeTooLong => bare(9),
-        Refusal::BadStore => bare(10),
-        Refusal::BadCursor => bare(11),
-        Refusal::ScopeBelowList => bare(12),
-        Refusal::BadIdentity => bare(13),
-        Refusal::PduSize => bare(14),
-        Refusal::BadHeader => bare(15),
-        Refusal::LengthMismatch => bare(16),
-        Refusal::NotNak => bare(17),
-        Refusal::ScopeReversed => bare(18),
-        Refusal::AlreadyKnown => bare(19),
-        Refusal::BudgetTooLarge => bare(20),
-        Refusal::BadTrailer => bare(21),
-        Refusal::FileSizeError => bare(22),
-        Refusal::BadPool => bare(23),
-        Refusal::BadTimer => bare(25),
-        Refusal::BadPlan(test, pdu) => pair(26, test as u64, pdu as u64),
+impl From<Refusal> for Told {
+    ghost from_gives = { λ r told. told ≡ told_of (refusing r) };
+
+    fn from(r: Refusal) -> Told {
+        match r {
+            Refusal::StoreFull => bare(1),
+            Refusal::EmptySegment => bare(2),
+            Refusal::StartLargerThanEnd(s, e) => pair(3, s, e),
+            Refusal::LargeFileSegmentNotSupported => bare(4),
+            Refusal::InvalidSegmentBoundary(s, e) => pair(5, s, e),
+            Refusal::BufferSizeMissmatch(needed, given) => pair(6, needed as u64, given as u64),
+            Refusal::LargeSegmentForNormalFileSize => bare(7),
+            Refusal::NotCoalesced => bare(8),
+            Refusal::RangeTooLong => bare(9),
+            Refusal::BadStore => bare(10),
+            Refusal::BadCursor => bare(11),
+            Refusal::ScopeBelowList => bare(12),
+            Refusal::BadIdentity => bare(13),
+            Refusal::PduSize => bare(14),
+            Refusal::BadHeader => bare(15),
+            Refusal::LengthMismatch => bare(16),
+            Refusal::NotNak => bare(17),
+            Refusal::ScopeReversed => bare(18),
+            Refusal::AlreadyKnown => bare(19),
+            Refusal::BudgetTooLarge => bare(20),
+            Refusal::BadTrailer => bare(21),
+            Refusal::FileSizeError => bare(22),
+            Refusal::BadPool => bare(23),
+            Refusal::BadTimer => bare(25),
+            Refusal::BadPlan(test, pdu) => pair(26, test as u64, pdu as u64),
+        }
     }
 }

@@ -1,5 +1,6 @@
-pub mod Turns
-pub mod Given
 pub mod Wanted
-pub mod Puts
-pub mod Gathered
+pub mod Ahead
+pub mod Given
+pub mod Tests
+pub mod Pushed
+pub mod Runs

@@ -3,15 +3,18 @@ use mathlib.Core.Path.{◌≡◌, refl, sym, ap, ◌∙◌}
 use mathlib.Core.Bool.{Bool, true, false, not, true≢false}
 use mathlib.Core.List.{List, [], ◌∷◌}
 use mathlib.Core.Logic.{◌⊎◌, inl, inr}
-use Prim.Native.Nat.{ℕ, zero, suc, ◌≤◌, ◌<◌}
+use Prim.Native.Nat.{ℕ, zero, suc, ◌*◌, ◌≤◌, ◌<◌}
 use native.Mathlib.Omega.{arith}
 use lib.ListN.{length}
-use lib.Dec.{ltb}
-use borrow.Author.Tests.{ltb-true, ltb-false}
+use lib.Dec.{leb, ltb}
+use borrow.Author.Tests.{leb-true, leb-false, ltb-true, ltb-false}
 use Rattle.ranges.specs.Range.{Range, range, In, Covers, Above, Coalesced, range_at}
-use Rattle.ranges.specs.Inner.Cut.{first}
+use Rattle.ranges.specs.Store.{counted, start_at, end_at}
+use Rattle.ranges.specs.Inner.Cut.{past, first}
 use Rattle.ranges.proofs.Covering.{above_covers, at_covers}
+use Rattle.ranges.proofs.Flat.{length-counted, get_or-counted}
 use Rattle.ranges.proofs.Halving.{above_at}
+use Rattle.ranges.proofs.Without.{place_at}
 use Rattle.holding.specs.Count.{is_covered}
 use Rattle.holding.proofs.Counting.{covered-set}
 use Rattle.planning.specs.Tests.{some_offset}
@@ -66,3 +69,32 @@ module _ (a b : ℕ) (rs : List Range) (lt : a < b) (s : Coalesced rs) where
   -- it has all
   pub lacks_not : first a rs < length rs → (range_at rs (first a rs)).start ≤ a → b ≤ (range_at rs (first a rs)).end → Lacks rs (range a b) ≡ false
   lacks_not l g e = lacks_none rs (range a b) (λ x h. at_covers x rs (first a rs) l (omega (arith, h.0), omega (arith, h.1)))
+
+-- the first range that ends above a has (a, b), as far as its end
+module _ (xs : List ℕ) (n a b : ℕ) (room : 2 * n ≤ length xs) (s : Coalesced (counted xs n)) (lt : a < b) (h : first a (counted xs n) < n) where
+  abbrev rs : List Range
+  rs = counted xs n
+
+  abbrev i : ℕ
+  i = first a (counted xs n)
+
+  known : range_at (counted xs n) (first a (counted xs n)) ≡ range (start_at xs (first a (counted xs n))) (end_at xs (first a (counted xs n)))
+  known = get_or-counted xs n i h room
+
+  below : first a (counted xs n) < length (counted xs n)
+  below = rw (length-counted xs n room) h
+
+  pub by_start : a < start_at xs (first a (counted xs n)) → false ≡ not (Lacks (counted xs n) (range a b))
+  by_start k = sym (ap not (lacks_start a b rs lt s (rw known k)))
+
+  pub by_end : start_at xs (first a (counted xs n)) ≤ a → leb b (end_at xs (first a (counted xs n))) ≡ not (Lacks (counted xs n) (range a b))
+  by_end k = go (leb b (end_at xs i)) refl
+    where
+      go : (t : Bool) → leb b (end_at xs i) ≡ t → t ≡ not (Lacks rs (range a b))
+      go true e = sym (ap not (lacks_not a b rs lt s below (rw known k) (rw known (leb-true _ _ e))))
+      go false e = sym (ap not (lacks_end a b rs lt s below (ltb-true _ _ (place_at (past a) rs below)) (rw known (leb-false _ _ e))))
+
+-- or none ends above a
+pub by_none : (xs : List ℕ) (n a b : ℕ) → 2 * n ≤ length xs → Coalesced (counted xs n) → a < b → n ≤ first a (counted xs n) → first a (counted xs n) ≤ n
+    → false ≡ not (Lacks (counted xs n) (range a b))
+by_none xs n a b room s lt h k = let l = length-counted xs n room in sym (ap not (lacks_past a b (counted xs n) lt s (omega (arith, l))))

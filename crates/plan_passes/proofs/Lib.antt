@@ -1,4 +1,5 @@
-pub mod Starts
 pub mod Runs
 pub mod Numbers
-pub mod Pairs
+pub mod Sums
+pub mod Packets
+pub mod Metadata

@@ -3,12 +3,15 @@ use mathlib.Core.Path.{◌≡◌, refl, sym, ap, ◌∙◌}
 use mathlib.Core.Bool.{Bool, true, false, not, true≢false}
 use mathlib.Core.List.{List, ◌++◌}
 use mathlib.Core.Logic.{inl}
-use Prim.Native.Nat.{ℕ, zero, suc, ◌+◌, ◌*◌, ◌-◌, ◌^◌, ◌≤◌}
+use Prim.Native.Nat.{ℕ, zero, suc, ◌+◌, ◌*◌, ◌-◌, ◌/◌, ◌^◌, ◌≤◌}
 use native.Mathlib.Nat.{pow-le-pow_right}
 use native.Mathlib.Omega.{arith}
 use lib.Dec.{eqb}
 use lib.ListN.{length, get_or, take, drop, length-take}
 use borrow.Author.Tests.{eqb-true, eqb-false}
+use Rattle.std.specs.Prelude.{Option, MatchOption}
+use Rattle.std.specs.Bool.{then_some}
+use Rattle.octets.specs.Flag.{field_length}
 use Rattle.octets.specs.Octets.{number, AllOctets}
 use Rattle.octets.proofs.Fields.{number-below, octets-take, octets-drop}
 use Rattle.ranges.specs.Range.{Range, last_end}
@@ -24,8 +27,7 @@ use Rattle.segment_store.specs.Coalesce.{maximal_runs}
 use Rattle.segment_store.proofs.coalesce.Meaning.{runs_covers}
 use Rattle.planning.specs.Tests.{asks_again}
 use Rattle.planning.proofs.Adds.{Below, again_by_octets}
-use Rattle.plan_packets.specs.Requests.{lying_in}
-use Rattle.plan_packets.proofs.Given.{lies}
+use Rattle.plan_packets.proofs.Given.{eight, given}
 use Rattle.plan_passes.proofs.Runs.{covered_same}
 
 -- a field of at most eight octets
@@ -56,6 +58,11 @@ same_tests a b c d f g = go (eqb a b) (eqb c d) refl refl
     go true false e h = absurd (eqb-false c d h (f (eqb-true a b e)))
     go false true e h = absurd (eqb-false a b e (g (eqb-true c d h)))
 
+-- a number is handed back unless an offset is asked for again
+pub taken : {r : Option ℕ} {asks : Bool} (P Q : ℕ → Type 0) (b : Bool) (n : ℕ) → r ≡ then_some b n → not b ≡ asks → P n → Q n → MatchOption r (asks ≡ true) (λ m. (asks ≡ false) × P m × Q m)
+taken P Q true n e f p q = rw e (sym f, p, q)
+taken P Q false n e f p q = rw e (sym f)
+
 module _ (M : ℕ) (top : wide_limit ≤ M) where
   -- the last end of counted pairs
   pub last_fits : (xs : List ℕ) (n : ℕ) → 2 * n ≤ length xs → ((i : ℕ) → get_or xs i 0 ≤ wide_limit) → last_end (counted xs n) ≤ M
@@ -70,9 +77,10 @@ module _ (M : ℕ) (top : wide_limit ≤ M) where
 
   given_below : (v : Edition) (p : List ℕ) → AllOctets p → Below M (requests_given v p)
   given_below v p a =
-      let w = lies v p in
-      let q = lying_in (parsed_of v p) in
-      rw (← w.are) (requests-below q.f q.count (drop q.from p) w.high (octets-drop q.from p a))
+      let q = parsed_of v p in
+      let f = field_length q.form.flag in
+      let os = take (q.to - q.from) (drop q.from p) in
+      rw (← given v p) (requests-below f (length os / (2 * f)) os (eight q.form.flag) (octets-take (q.to - q.from) (drop q.from p) (octets-drop q.from p a)))
 
   runs-octets : (qs : List Range) → octets_below M (maximal_runs qs) ≡ octets_below M qs
   runs-octets qs = count_same (is_covered (maximal_runs qs)) (is_covered qs) M (λ x l. covered_same (maximal_runs qs) qs (λ y. runs_covers y qs) x)

@@ -3,18 +3,17 @@ use mathlib.Core.Path.{◌≡◌, refl, sym, ap₂, ◌∙◌}
 use mathlib.Core.Bool.{Bool, true, false, ◌||◌, true≢false}
 use mathlib.Core.List.{List, [], ◌∷◌, ◌++◌}
 use mathlib.Core.Logic.{inl, inr, ⊎_elim}
-use Prim.Native.Nat.{ℕ, zero, suc, ◌+◌, ◌-◌, ◌≤◌}
-use native.Mathlib.Omega.{arith}
-use lib.ListN.{drop}
-use lib.Seq.{drop-drop}
+use Prim.Native.Nat.{ℕ, zero, suc, ◌+◌, ◌-◌}
 use Rattle.ranges.specs.Range.{Range, Same}
 use Rattle.ranges.proofs.Covering.{covers_append, append_covers}
 use Rattle.ranges.proofs.Unique.{unique}
+use Rattle.nak_parsing.specs.Step.{requests_given}
 use Rattle.holding.specs.Count.{is_covered}
 use Rattle.holding.proofs.Counting.{covered-set}
 use Rattle.segment_store.specs.Coalesce.{maximal_runs}
 use Rattle.segment_store.proofs.coalesce.Meaning.{runs-coalesced, runs_covers}
-use Rattle.planning.specs.Tests.{any_from, asks_again}
+use Rattle.planning.specs.Plan.{Plan, packet, requests_of, asked_before}
+use Rattle.planning.specs.Tests.{any_from, asks_again, is_repeat}
 
 same-append : (qs ps rs : List Range) → Same qs ps → Same (qs ++ rs) (ps ++ rs)
 same-append qs ps rs s x = (
@@ -61,8 +60,10 @@ pub runs_none : maximal_runs [] ≡ []
 unfolding maximal_runs
 runs_none = refl
 
--- what stands past a place stands past a later one
-pub drop-later : (xs ys : List ℕ) (a b : ℕ) → a ≤ b → drop a xs ≡ drop a ys → drop b xs ≡ drop b ys
-drop-later xs ys a b h e =
-    let k : a + (b - a) ≡ b = omega arith in
-    rw (← k) (sym (drop-drop (b - a) a xs) ∙ rw e (drop-drop (b - a) a ys))
+-- the requests of PDU k join the runs of those before it
+module _ (p : Plan) (k : ℕ) {os : List ℕ} {rs : List Range} (e : os ≡ packet p k) (r : rs ≡ maximal_runs (asked_before p k)) where
+  pub repeat-is : asks_again rs (requests_given p.edition os) ≡ is_repeat p k
+  repeat-is = rw (e, r) (again_runs (asked_before p k) (requests_of p k))
+
+  pub runs-join : maximal_runs (rs ++ requests_given p.edition os) ≡ maximal_runs (asked_before p (suc k))
+  runs-join = rw (e, r) (runs-more (asked_before p k) (requests_of p k))

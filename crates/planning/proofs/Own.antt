@@ -23,7 +23,8 @@ use Rattle.reception.specs.declared.Reception.{Reception}
 use Rattle.reception.specs.Record.{record_checks, Passed}
 use Rattle.reception.proofs.Sound.{sound, none-join}
 use Rattle.sequence.specs.Entries.{Asking, entries_of, scope_start, scope_end, nak_at, naks, octets_of, rounded_up}
-use Rattle.sequence.specs.Sequence.{Order, Allowed, asked}
+use Rattle.sequence.specs.Sequence.{Allowed, asked}
+use Rattle.sequence.specs.declared.Order.{Order}
 use Rattle.sequence.specs.Calls.{Call, AllFit, octets_by, budgets}
 use Rattle.sequence.specs.Parted.{parted, joined, requests_read}
 use Rattle.sequence.proofs.Parting.{pdus, joined-pdus, length-pdus, parted-naks, requests-read, requests-naks}

@@ -1,23 +1,21 @@
 -- The check of a plan against the record (document 02, C-23): its checks, then its six tests.
-use Rattle.std.specs.Prelude.{ℕ, ◌*◌, ◌/◌, not, List, [], ◌∷◌, ◌++◌, eqb, ltb, length}
+use Rattle.std.specs.Prelude.{ℕ, ◌*◌, ◌/◌, not, List, [], ◌∷◌, ◌++◌, eqb, ltb, length, Result, ⊤}
 use Rattle.ranges.specs.Store.{cleared}
 use Rattle.outcomes.specs.Outcome.{Outcome, accepted, lent}
-use Rattle.outcomes.specs.Refusal.{refusing}
+use Rattle.outcomes.specs.Answered.{answered, nothing}
 use Rattle.outcomes.specs.Checks.{Check, first_of}
 use Rattle.outcomes.specs.declared.Refusal.TheVariants as refusal
+use Rattle.outcomes.specs.declared.Refusal.{Refusal}
 use Rattle.nak.specs.declared.Identity.{Identity}
 use Rattle.nak.specs.Writer.{is_bad_identity}
 use Rattle.reception.specs.declared.Reception.{Reception}
 use Rattle.reception.specs.Record.{record_checks}
-use Rattle.planning.specs.declared.PlanAnswer.{PlanAnswer}
-use Rattle.planning.specs.declared.PlanAnswer.TheVariants as answer
 use Rattle.planning.specs.Plan.{Plan, pdus, start_of}
 use Rattle.planning.specs.Tests.{plan_tests}
 
 -- The number and the values of each case of the answer.
-abbrev pub plan_case : PlanAnswer → Outcome
-plan_case answer.Fits = accepted []
-plan_case (answer.Refused r) = refusing r
+abbrev pub plan_case : Result ⊤ Refusal → Outcome
+plan_case = answered nothing
 
 -- A plan has at most 16 PDUs.
 abbrev pub most_pdus : ℕ

@@ -1,11 +1,2 @@
-// A plan of NAK PDUs that mission planning proposes: what its check answers. The call is in the crate planner.
+// A plan of NAK PDUs that mission planning proposes: its definitions and laws. The call is in the crate planner.
 #![tactic(auto)]
-
-use outcomes::Refusal;
-
-#[derive(Clone, Copy)]
-pub enum PlanAnswer {
-    // Each test passes.
-    Fits,
-    Refused(Refusal),
-}

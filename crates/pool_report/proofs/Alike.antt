@@ -2,7 +2,6 @@
 use mathlib.Core.Path.{◌≡◌, ap, ap₂, ◌∙◌, sym}
 use mathlib.Core.List.{List}
 use Prim.Native.Nat.{ℕ}
-use Rattle.ranges.specs.Range.{Range}
 use Rattle.ranges.specs.Store.{flat}
 use Rattle.outcomes.specs.Outcome.{Outcome}
 use Rattle.outcomes.specs.Checks.{NoneOf, first_of}
@@ -10,7 +9,8 @@ use Rattle.outcomes.proofs.FirstOf.{first-none}
 use Rattle.reception.specs.declared.Reception.{Reception}
 use Rattle.holding.specs.Held.{held_outcome}
 use Rattle.holding.specs.MissingOctets.{missing_octets_outcome}
-use Rattle.sequence.specs.Sequence.{Order, sequence_outcome}
+use Rattle.sequence.specs.Sequence.{sequence_outcome}
+use Rattle.sequence.specs.declared.Order.{Order}
 use Rattle.pooling.specs.declared.Pool.{Pool}
 use Rattle.pooling.specs.Pool.{record_at}
 use Rattle.pooling.specs.Share.{own_part, own_ranges, pool_checks}

@@ -6,10 +6,8 @@ use Prim.Native.Nat.{ℕ}
 use lib.Dec.{eqb}
 use Rattle.outcomes.specs.Outcome.{Outcome, accepted, lent}
 use Rattle.outcomes.specs.Refusal.{refusing}
-use Rattle.outcomes.specs.Checks.{Check, first_of, verdict_case}
+use Rattle.outcomes.specs.Checks.{Check, first_of}
 use Rattle.outcomes.specs.declared.Refusal.{Refusal}
-use Rattle.outcomes.specs.declared.Verdict.{Verdict}
-use Rattle.outcomes.specs.declared.Verdict.TheVariants as verdict
 use Rattle.outcomes.proofs.FirstOf.{first-append}
 use Rattle.outcomes.proofs.Refusals.{lent-refused}
 use Rattle.reception.specs.Record.{record_checks}
@@ -20,27 +18,28 @@ use Rattle.pooling.proofs.Own.{known}
 use Rattle.sharing.specs.Inner.{other_checks}
 use Rattle.sharing.proofs.Judged.{refused-before, passed-before}
 
-module _ (p : Pool) (xs : List ℕ) (i : ℕ) (cs : List Check) (behind : Outcome) (v : Verdict) (e : verdict_case v ≡ first_of (other_checks p xs i) (accepted [])) where
+module _ (p : Pool) (xs : List ℕ) (i : ℕ) (cs : List Check) (behind : Outcome) where
   -- the outcome of the call over the part
   abbrev over : Outcome
   over = first_of (record_checks (record_at p i) (own_part p xs i) ++ cs) behind
 
-  pub refused-asked : (r : Refusal) → v ≡ verdict.Refused r → refusing r ≡ first_of (pool_checks p xs i) over
-  refused-asked r f =
-      refused-before p xs (own_part p xs i) i (λ u s. refl) (λ u. (known p xs i u).1) cs behind v r e f
+  pub refused-asked : (r : Refusal) → refusing r ≡ first_of (other_checks p xs i) (accepted []) → refusing r ≡ first_of (pool_checks p xs i) over
+  refused-asked r e =
+      refused-before p xs (own_part p xs i) i (λ u s. refl) (λ u. (known p xs i u).1) cs behind r e
       ∙ first-append (pool_checks p xs i) (record_checks (record_at p i) (own_part p xs i) ++ cs) behind
 
-  pub passed-asked : (o : Outcome) → v ≡ verdict.Passed → o ≡ over → o ≡ first_of (pool_checks p xs i) over
-  passed-asked o f g =
-      passed-before p xs (own_part p xs i) i (λ u s. refl) (λ u. (known p xs i u).1) cs behind o v e f g
+  pub passed-asked : (o : Outcome) → accepted [] ≡ first_of (other_checks p xs i) (accepted []) → o ≡ over → o ≡ first_of (pool_checks p xs i) over
+  passed-asked o e g =
+      passed-before p xs (own_part p xs i) i (λ u s. refl) (λ u. (known p xs i u).1) cs behind o e g
       ∙ first-append (pool_checks p xs i) (record_checks (record_at p i) (own_part p xs i) ++ cs) behind
 
   -- what is lent: as it was, or as the call over the part leaves it
-  pub refused-lent : (r : Refusal) → v ≡ verdict.Refused r → (new old : List ℕ) → old ≡ lent (first_of (pool_checks p xs i) over) new old
-  refused-lent r f new old = sym (lent-refused r new old) ∙ ap (λ (o : Outcome). lent o new old) (refused-asked r f)
+  pub refused-lent : (r : Refusal) → refusing r ≡ first_of (other_checks p xs i) (accepted []) → (new old : List ℕ) → old ≡ lent (first_of (pool_checks p xs i) over) new old
+  refused-lent r e new old = sym (lent-refused r new old) ∙ ap (λ (o : Outcome). lent o new old) (refused-asked r e)
 
-  pub passed-lent : v ≡ verdict.Passed → (new old l : List ℕ) → l ≡ lent over new old → l ≡ lent (first_of (pool_checks p xs i) over) (lent over new old) old
-  passed-lent f new old l g = g ∙ twice over ∙ ap (λ (o : Outcome). lent o (lent over new old) old) (passed-asked over f refl)
+  pub passed-lent : accepted [] ≡ first_of (other_checks p xs i) (accepted []) → (new old l : List ℕ) → l ≡ lent over new old
+      → l ≡ lent (first_of (pool_checks p xs i) over) (lent over new old) old
+  passed-lent e new old l g = g ∙ twice over ∙ ap (λ (o : Outcome). lent o (lent over new old) old) (passed-asked over e refl)
     where
       twice : (o : Outcome) → lent o new old ≡ lent o (lent o new old) old
       twice o = go (eqb o.number 0) refl

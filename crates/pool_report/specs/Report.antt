@@ -5,7 +5,8 @@ use Rattle.outcomes.specs.Outcome.{Outcome, lent}
 use Rattle.outcomes.specs.Checks.{first_of}
 use Rattle.holding.specs.Held.{held_outcome}
 use Rattle.holding.specs.MissingOctets.{missing_octets_outcome}
-use Rattle.sequence.specs.Sequence.{Order, sequence_outcome, sequence_buffer}
+use Rattle.sequence.specs.Sequence.{sequence_outcome, sequence_buffer}
+use Rattle.sequence.specs.declared.Order.{Order}
 use Rattle.pooling.specs.declared.Pool.{Pool}
 use Rattle.pooling.specs.Pool.{record_at}
 use Rattle.pooling.specs.Share.{own_part, pool_checks}

@@ -3,23 +3,15 @@ ghost use Rattle.std.specs.Prelude.{◌≡◌};
 ghost use Rattle.holding.specs.MissingOctets.{missing_octets_case};
 ghost use Rattle.pool_report.specs.Report.{pool_missing_outcome};
 
-use holding::missing_octets::MissingOctetsAnswer;
-use outcomes::Verdict;
+use outcomes::Refusal;
 use pooling::Pool;
 use report::missing_octets::missing_octets;
-use sharing::inner::checks::pool_checks;
-use sharing::inner::settings::held_before;
+use sharing::inner::own::own;
 
 // How many octets transfer i misses. The list is read once.
-pub fn pool_missing_octets(pool: Pool, list: &[u64], i: usize) -> MissingOctetsAnswer
+pub fn pool_missing_octets(pool: Pool, list: &[u64], i: usize) -> Result<u64, Refusal>
     ensures { missing_octets_case result ≡ pool_missing_outcome pool list.now i }
 {
-    let found = pool_checks(pool, list, i);
-    if let Verdict::Refused(r) = found {
-        return MissingOctetsAnswer::Refused(r);
-    }
-    let rec = pool.records[i];
-    let at = held_before(pool, i);
-    let end = at + rec.count;
-    missing_octets(rec, &list[2 * at..2 * end])
+    let (rec, part) = own(pool, list, i)?;
+    missing_octets(rec, part)
 }

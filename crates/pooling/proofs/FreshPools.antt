@@ -1,10 +1,12 @@
--- The pool that the host begins with is a fresh one.
-use mathlib.Core.Path.{◌≡◌, refl}
-use mathlib.Core.List.{List}
-use Prim.Native.Nat.{ℕ, zero, suc, ◌≤◌, ◌<◌}
+-- The pool that the host begins with is a fresh one; its records are told one by one.
+use mathlib.Core.Path.{◌≡◌, refl, ap, ap₂, ◌∙◌}
+use mathlib.Core.List.{List, [], ◌∷◌}
+use Prim.Native.Nat.{ℕ, zero, suc, ◌+◌, ◌≤◌, ◌<◌}
 use native.Mathlib.Omega.{arith}
-use lib.ListN.{get_or}
+use lib.ListN.{length, get_or}
 use Rattle.ranges.specs.declared.Width.{Width}
+use Rattle.ranges.specs.declared.Width.TheVariants.{Wide}
+use Rattle.reception.specs.declared.Reception.{Reception}
 use Rattle.reception.specs.Record.{fresh_record}
 use Rattle.pooling.specs.Pool.{most_transfers, nowhere, fresh_records, fresh_pool}
 use Rattle.pooling.specs.History.{Fresh}
@@ -16,3 +18,13 @@ fresh_at ws j (suc n) (suc k) l = fresh_at ws (suc j) n k (omega (arith, l))
 
 pub fresh-pool : (used : ℕ) (ws : List Width) (floors limits : List ℕ) → used ≤ most_transfers → Fresh (fresh_pool used ws floors limits)
 fresh-pool used ws floors limits h = record { eight = refl; each = λ k l. fresh_at ws 0 most_transfers k (omega (arith, l, h)) }
+
+pub fresh-records : (ws : List Width) (rs : List Reception) (j n : ℕ) → length rs ≡ n
+    → ((i : ℕ) → i < n → get_or rs i nowhere ≡ fresh_record (get_or ws (j + i) Wide)) → rs ≡ fresh_records ws j n
+fresh-records ws [] j zero h e = refl
+fresh-records ws [] j (suc n) h e = absurd (omega (arith, h))
+fresh-records ws (r ∷ rs) j zero h e = absurd (omega (arith, h))
+fresh-records ws (r ∷ rs) j (suc n) h e =
+    let same : (k m : ℕ) → k ≡ m → fresh_record (get_or ws k Wide) ≡ fresh_record (get_or ws m Wide) = λ k m q. ap (λ (k : ℕ). fresh_record (get_or ws k Wide)) q in
+    ap₂ (λ (r : Reception) (rs : List Reception). r ∷ rs) (e 0 (omega arith) ∙ same (j + 0) j (omega arith))
+    (fresh-records ws rs (suc j) n (omega (arith, h)) (λ i l. e (suc i) (omega (arith, l)) ∙ same (j + suc i) (suc j + i) (omega arith)))

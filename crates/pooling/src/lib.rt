@@ -5,14 +5,12 @@
 ghost use Rattle.std.specs.Prelude.{◌≡◌};
 ghost use Rattle.pooling.specs.Pool.{fresh_pool};
 
+use outcomes::Refusal;
 use ranges::Width;
 use reception::Reception;
-use reception::data::DataAnswer;
-use reception::eof::EofAnswer;
-use reception::metadata::MetadataAnswer;
 
 // A pool, which the host keeps beside the list that it lends: how many transfers are in use, and of each its record, its floor and its
-// limit, both in ranges.
+// limit, both in ranges. Three arrays, and not one of transfers: specs/Pool names them (record_at, floor_at, limit_at, fresh_pool).
 #[derive(Clone, Copy)]
 pub struct Pool {
     pub used: usize,
@@ -26,38 +24,18 @@ impl Pool {
     pub fn fresh(used: usize, widths: [Width; 8], floors: [usize; 8], limits: [usize; 8]) -> Pool
         ensures { result ≡ fresh_pool used widths floors limits }
     {
-        let a = Reception::fresh(widths[0]);
-        let b = Reception::fresh(widths[1]);
-        let c = Reception::fresh(widths[2]);
-        let d = Reception::fresh(widths[3]);
-        let e = Reception::fresh(widths[4]);
-        let f = Reception::fresh(widths[5]);
-        let g = Reception::fresh(widths[6]);
-        let h = Reception::fresh(widths[7]);
         Pool {
             used,
-            records: [a, b, c, d, e, f, g, h],
+            records: widths.map(Reception::fresh),
             floors,
             limits,
         }
     }
 }
 
-// What a caller has after a step: the answer, and the pool afterwards.
+// What a caller has after an event: its answer, and the pool afterwards.
 #[derive(Clone, Copy)]
-pub struct DataDone {
-    pub answer: DataAnswer,
-    pub pool: Pool,
-}
-
-#[derive(Clone, Copy)]
-pub struct MetadataDone {
-    pub answer: MetadataAnswer,
-    pub pool: Pool,
-}
-
-#[derive(Clone, Copy)]
-pub struct EofDone {
-    pub answer: EofAnswer,
+pub struct PoolDone<A> {
+    pub answer: Result<A, Refusal>,
     pub pool: Pool,
 }

@@ -2,12 +2,13 @@
 // A program has no public calls: `pub` lets its modules call one another, and a `requires` is what each caller here has seen to.
 #![tactic(auto)]
 
-use console_state::inner::state;
-use console_state::inner::state::State;
-use console_text::inner::print;
+ghost use Rattle.std.specs.Prelude.{◌≤◌};
+
+use console_state::inner::failure::Failure;
+use console_state::inner::state::{Room, State};
 use console_text::inner::print::Output;
 use std::env::{Env, FillError};
-use std::io::{ErrorKind, Read, Stdout};
+use std::io::{ErrorKind, Read, Stdout, Write};
 use std::process::ExitCode;
 use std::rt::Files;
 use std::{fs, io};
@@ -32,168 +33,132 @@ fn fail(rt: &(impl Eprint + Alloc), what: &str, name: &str, error: io::Error) ->
     false
 }
 
-// Takes one octet of the input: a newline ends the line, any other octet lengthens it.
-fn take_octet(
-    s: State,
-    octet: u8,
-    line: &mut [u8],
-    memory: &mut [u64],
-    values: &mut [u64; 8274],
-    buf: &mut [u8],
-    out: &mut Output,
-) -> State {
-    if octet == b'\n' {
-        return commands::end_line(s, line, memory, values, buf, out);
-    }
-    let mut next = s;
-    let filled = s.filled;
-    if filled < line.len() {
-        line[filled] = octet;
-        next.filled = filled + 1;
-    } else {
-        next.overlong = true;
-    }
-    next
-}
-
-fn take_octets(
-    s: State,
-    octets: &[u8],
-    line: &mut [u8],
-    memory: &mut [u64],
-    values: &mut [u64; 8274],
-    buf: &mut [u8],
-    out: &mut Output,
-) -> State {
-    let mut next = s;
-    let mut i = 0;
-    while i < octets.len() {
-        next = take_octet(next, octets[i], line, memory, values, buf, out);
-        i += 1;
-    }
-    next
-}
-
-// What a turn of reading leaves: whether there may be more, and whether what there was could be read.
+// The line that is being read, in fixed memory: its octets so far, whether more came than a line may have, and how many lines have
+// ended. std's `lines` would take each from the heap.
 #[derive(Drop)]
-struct Turn {
-    state: State,
-    more: bool,
-    fine: bool,
+struct Line {
+    octets: [u8; 65535],
+    filled: usize,
+    overlong: bool,
+    ended: u64,
+    ghost within: { filled ≤ 65535 },
 }
 
-// Reads once and takes what came.
-fn read_some<I: Read>(
-    rt: &(impl Eprint + Alloc),
-    input: &mut I,
-    name: &str,
-    s: State,
-    line: &mut [u8],
-    memory: &mut [u64],
-    values: &mut [u64; 8274],
-    buf: &mut [u8],
-    out: &mut Output,
-) -> Turn {
-    let mut chunk = [0u8; 65536];
-    match input.read(&mut chunk) {
-        Ok(n) => {
-            let next = take_octets(s, &chunk[..n], line, memory, values, buf, out);
-            Turn {
-                state: next,
-                more: 0 < n,
-                fine: true,
+impl Line {
+    fn push(&mut self, octet: u8) {
+        if self.filled < self.octets.len() {
+            self.octets[self.filled] = octet;
+            self.filled += 1;
+        } else {
+            self.overlong = true;
+        }
+    }
+
+    // The line has ended, and the next one begins.
+    fn end(&mut self) {
+        self.filled = 0;
+        self.overlong = false;
+        self.ended = self.ended.wrapping_add(1);
+    }
+}
+
+// What the console holds, and where its answers go.
+#[derive(Drop)]
+struct Console {
+    line: Line,
+    state: State,
+    room: Room,
+    out: Output,
+}
+
+impl Console {
+    fn new(to: Stdout) -> Console {
+        Console {
+            line: Line {
+                octets: [0; 65535],
+                filled: 0,
+                overlong: false,
+                ended: 0,
+            },
+            state: State::new(),
+            room: Room::new(),
+            out: Output::new(to),
+        }
+    }
+
+    // Takes what was read: a newline ends the line, any other octet lengthens it.
+    fn take(&mut self, octets: &[u8]) -> io::Result<()> {
+        for octet in octets {
+            if *octet == b'\n' {
+                self.end_line()?;
+            } else {
+                self.line.push(*octet);
             }
         }
-        Err(error) => Turn {
-            state: s,
-            more: false,
-            fine: fail(rt, "read ", name, error),
-        },
+        Ok(())
     }
-}
 
-// Reads to the end, or until a write fails. A proved loop has to end, and nothing says that a file does: the turns are counted down from
-// a number that no run uses up.
-fn read_all<I: Read>(
-    rt: &(impl Eprint + Alloc),
-    input: &mut I,
-    name: &str,
-    line: &mut [u8],
-    memory: &mut [u64],
-    values: &mut [u64; 8274],
-    buf: &mut [u8],
-    out: &mut Output,
-) -> Turn {
-    let mut s = state::start();
-    let mut turns = u64::MAX;
-    while turns > 0 {
-        let t = read_some(rt, input, name, s, line, memory, values, buf, out);
-        if !t.more {
-            return t;
+    fn end_line(&mut self) -> io::Result<()> {
+        let line = &self.line;
+        let answered = if line.overlong {
+            Err(Failure::BadLine)
+        } else {
+            commands::answer(
+                &line.octets[..line.filled],
+                &mut self.state,
+                &mut self.room,
+                &mut self.out,
+            )
+        };
+        self.line.end();
+        match answered {
+            Ok(()) => Ok(()),
+            Err(Failure::BadLine) => writeln!(self.out, "error {}", self.line.ended),
+            Err(Failure::Refused(refused)) => writeln!(self.out, "{refused}"),
+            Err(Failure::Unwritten(error)) => Err(error),
         }
-        s = t.state;
-        if print::has_failed(out) {
-            return t;
+    }
+
+    // A last piece without a newline is a line if it isn't empty.
+    fn finish(&mut self) -> io::Result<()> {
+        if 0 < self.line.filled {
+            self.end_line()?;
         }
-        turns -= 1;
-    }
-    Turn {
-        state: s,
-        more: false,
-        fine: true,
+        self.out.flush()
     }
 }
 
-// A last piece without a newline is a line if it isn't empty.
-fn answer_last(
-    s: State,
-    line: &mut [u8],
-    memory: &mut [u64],
-    values: &mut [u64; 8274],
-    buf: &mut [u8],
-    out: &mut Output,
-) -> State {
-    if s.filled == 0 {
-        return s;
-    }
-    commands::end_line(s, line, memory, values, buf, out)
-}
-
+// Answers what the input holds, to its end or until a write fails; whether all could be read. A proved loop has to end, and nothing says
+// that a file does: the turns are counted, to a number that no run comes to.
 fn answer_all<I: Read>(
     rt: &(impl Eprint + Alloc),
+    console: &mut Console,
     input: &mut I,
     name: &str,
-    line: &mut [u8],
-    memory: &mut [u64],
-    values: &mut [u64; 8274],
-    buf: &mut [u8],
-    out: &mut Output,
-) -> bool {
-    let t = read_all(rt, input, name, line, memory, values, buf, out);
-    let last = answer_last(t.state, line, memory, values, buf, out);
-    match print::flush(out, last.at) {
-        Ok(()) => t.fine,
-        Err(error) => fail(rt, "write ", "standard output", error),
+) -> io::Result<bool> {
+    let mut chunk = [0u8; 65536];
+    let mut fine = true;
+    for _ in 0..u64::MAX {
+        match input.read(&mut chunk) {
+            Ok(0) => break,
+            Ok(n) => console.take(&chunk[..n])?,
+            Err(error) => {
+                fine = fail(rt, "read ", name, error);
+                break;
+            }
+        }
     }
+    console.finish()?;
+    Ok(fine)
 }
 
-// Answers what the input holds; whether all could be read and written.
+// Whether all could be read and written.
 fn run<I: Read>(rt: &(impl Eprint + Alloc), to: Stdout, input: &mut I, name: &str) -> bool {
-    let mut line = [0u8; 65535];
-    let mut memory = [0u64; 8200];
-    let mut values = [0u64; 8274];
-    let mut buf = [0u8; 66000];
-    let mut out = print::start(to);
-    answer_all(
-        rt,
-        input,
-        name,
-        &mut line,
-        &mut memory,
-        &mut values,
-        &mut buf,
-        &mut out,
-    )
+    let mut console = Console::new(to);
+    match answer_all(rt, &mut console, input, name) {
+        Ok(fine) => fine,
+        Err(error) => fail(rt, "write ", "standard output", error),
+    }
 }
 
 // The file that the first argument names.

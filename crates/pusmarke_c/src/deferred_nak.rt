@@ -59,8 +59,7 @@ pub extern "C" fn pusmarke_deferred_data(
         × ((rec.new ≡ advanced_to (data_record (record_in rec.old) list.old offset length) rec.old)
         × (list.new ≡ data_list (record_in rec.old) list.old offset length)) }
 {
-    let own = *rec;
-    let done = data_whole(own, list, offset, length, timer);
+    let done = data_whole(*rec, list, offset, length, timer);
     *rec = done.rec;
     done.heard
 }
@@ -76,8 +75,7 @@ pub extern "C" fn pusmarke_deferred_metadata(
         (timer_out (heard (timer_in timer) (state_of (record_in rec.old) list.now) Metadata)))
         × (rec.new ≡ marked_by (metadata_record (record_in rec.old) list.now) rec.old) }
 {
-    let own = *rec;
-    let done = metadata_whole(own, list, timer);
+    let done = metadata_whole(*rec, list, timer);
     *rec = done.rec;
     done.heard
 }
@@ -95,8 +93,7 @@ pub extern "C" fn pusmarke_deferred_eof(
         × ((rec.new ≡ ended_by (eof_outcome (record_in rec.old) list.old size) (eof_record (record_in rec.old) list.old size) rec.old)
         × (list.new ≡ eof_list (record_in rec.old) list.old size)) }
 {
-    let own = *rec;
-    let done = eof_whole(own, list, size, timer);
+    let done = eof_whole(*rec, list, size, timer);
     *rec = done.rec;
     done.heard
 }

@@ -10,23 +10,13 @@ ghost use Rattle.c_values.specs.Output.{record_out, advanced_to, marked_by, ende
 
 use answers::PusmarkeAnswer;
 use c_values::PusmarkeReception;
-use c_values::inner::{mark_of, width_in};
 use c_values::record_events::{data_whole, eof_whole, metadata_whole};
-use reception::Reception;
 
 #[unsafe(no_mangle)]
 pub extern "C" fn pusmarke_fresh(narrow: u64) -> PusmarkeReception
     ensures { result ≡ record_out narrow (fresh_record (width_in narrow)) }
 {
-    let fresh = Reception::fresh(width_in(narrow));
-    PusmarkeReception {
-        progress: fresh.progress,
-        count: fresh.count,
-        narrow,
-        missing: mark_of(fresh.missing),
-        sized: mark_of(fresh.sized),
-        size: fresh.size,
-    }
+    PusmarkeReception::fresh(narrow)
 }
 
 // The data event: count and progress of the record change where they lie; narrow and missing stay as handed over.
@@ -41,8 +31,7 @@ pub extern "C" fn pusmarke_data(
         × ((rec.new ≡ advanced_to (data_record (record_in rec.old) list.old offset length) rec.old)
         × (list.new ≡ data_list (record_in rec.old) list.old offset length)) }
 {
-    let own = *rec;
-    let done = data_whole(own, list, offset, length);
+    let done = data_whole(*rec, list, offset, length);
     *rec = done.rec;
     done.answer
 }
@@ -53,8 +42,7 @@ pub extern "C" fn pusmarke_metadata(rec: &mut PusmarkeReception, list: &[u64]) -
     ensures { (result ≡ answer_of (metadata_outcome (record_in rec.old) list.now))
         × (rec.new ≡ marked_by (metadata_record (record_in rec.old) list.now) rec.old) }
 {
-    let own = *rec;
-    let done = metadata_whole(own, list);
+    let done = metadata_whole(*rec, list);
     *rec = done.rec;
     done.answer
 }
@@ -70,8 +58,7 @@ pub extern "C" fn pusmarke_eof(
         × ((rec.new ≡ ended_by (eof_outcome (record_in rec.old) list.old size) (eof_record (record_in rec.old) list.old size) rec.old)
         × (list.new ≡ eof_list (record_in rec.old) list.old size)) }
 {
-    let own = *rec;
-    let done = eof_whole(own, list, size);
+    let done = eof_whole(*rec, list, size);
     *rec = done.rec;
     done.answer
 }

@@ -6,9 +6,8 @@ ghost use Rattle.c_values.specs.Input.{record_in};
 ghost use Rattle.answers.specs.Answer.{answer_of};
 
 use answers::PusmarkeAnswer;
-use answers::report::{of_held, of_missing_octets};
 use c_values::PusmarkeReception;
-use c_values::inner::record_in;
+use reception::Reception;
 use report::held::held;
 use report::missing_octets::missing_octets;
 
@@ -21,14 +20,13 @@ pub extern "C" fn pusmarke_held(
 ) -> PusmarkeAnswer
     ensures { result ≡ answer_of (held_outcome (record_in rec) list.now start end) }
 {
-    let own = record_in(rec);
-    of_held(held(own, list, start, end))
+    PusmarkeAnswer::from(held(Reception::from(rec), list, start, end))
 }
 
 #[unsafe(no_mangle)]
 pub extern "C" fn pusmarke_missing_octets(rec: PusmarkeReception, list: &[u64]) -> PusmarkeAnswer
     ensures { result ≡ answer_of (missing_octets_outcome (record_in rec) list.now) }
 {
-    let whole = record_in(rec);
-    of_missing_octets(missing_octets(whole, list))
+    let whole = Reception::from(rec);
+    PusmarkeAnswer::from(missing_octets(whole, list))
 }

@@ -10,10 +10,10 @@ ghost use Rattle.c_values.specs.Input.{identity_in, form_in, edition_in};
 ghost use Rattle.c_values.specs.Output.{nak_out, step_out};
 
 use answers::PusmarkeAnswer;
-use answers::pdu::of_write;
-use c_values::inner::{edition_in, form_in, identity_in, mark_of};
-use c_values::pdu::{flag_out, identity_out, step_out};
+use c_values::inner::{edition_in, mark_of};
+use c_values::pdu::{flag_out, step_out};
 use c_values::{PusmarkeForm, PusmarkeIdentity, PusmarkeNak, PusmarkeStep};
+use nak::{Form, Identity};
 
 #[unsafe(no_mangle)]
 pub extern "C" fn pusmarke_write(
@@ -28,9 +28,9 @@ pub extern "C" fn pusmarke_write(
         (length buf.old)) }
     ensures buf_after { buf.new ≡ written requests.now (saying (form_in form) (identity_in identity) scope_start scope_end (pairs requests.now)) buf.old }
 {
-    let own = identity_in(identity);
-    let shape = form_in(form);
-    of_write(nak_writer::write(own, shape, scope_start, scope_end, requests, buf))
+    let own = Identity::from(identity);
+    let shape = Form::from(form);
+    PusmarkeAnswer::from(nak_writer::write(own, shape, scope_start, scope_end, requests, buf))
 }
 
 #[unsafe(no_mangle)]
@@ -39,19 +39,13 @@ pub extern "C" fn pusmarke_read(packet: &[u8], older: u64) -> PusmarkeNak
 {
     let edition = edition_in(older);
     let p = nak_parser::parse(packet, edition);
-    let own = p.identity;
-    let form = p.form;
-    let flag = form.flag;
-    let identity = identity_out(own);
-    let large = flag_out(flag);
-    let crc = mark_of(form.crc);
     PusmarkeNak {
         refusal: p.refusal,
         start: p.start,
         end: p.end,
-        identity,
-        large,
-        crc,
+        identity: PusmarkeIdentity::from(p.identity),
+        large: flag_out(p.form.flag),
+        crc: mark_of(p.form.crc),
         scope_start: p.scope_start,
         scope_end: p.scope_end,
         from: p.from,
@@ -65,7 +59,5 @@ pub extern "C" fn pusmarke_next(packet: &[u8], at: usize) -> PusmarkeStep
     ensures { result ≡ step_out (step_outcome packet.now at) (place_after packet.now at) }
 {
     let found = nak_parser::next_at(packet, at);
-    let step = found.step;
-    let place = found.at;
-    step_out(step, place)
+    step_out(found.step, found.at)
 }

@@ -5,9 +5,11 @@ ghost use Rattle.c_values.specs.Input.{record_in, identity_in, form_in};
 ghost use Rattle.answers.specs.Answer.{answer_of};
 
 use answers::PusmarkeAnswer;
-use answers::pdus::of_sequence;
-use c_values::inner::{form_in, identity_in, record_in};
 use c_values::{PusmarkeForm, PusmarkeIdentity, PusmarkeReception};
+use nak::{Form, Identity};
+use nak_sequence::write_nak_sequence;
+use reception::Reception;
+use sequence::Order;
 
 #[unsafe(no_mangle)]
 pub extern "C" fn pusmarke_nak_sequence(
@@ -23,10 +25,12 @@ pub extern "C" fn pusmarke_nak_sequence(
     ensures value { result ≡ answer_of (sequence_outcome (record_in rec) list.now (order (identity_in identity) (form_in form) largest cursor budget) (length buf.old)) }
     ensures buf_after { buf.new ≡ sequence_buffer (record_in rec) list.now (order (identity_in identity) (form_in form) largest cursor budget) buf.old }
 {
-    let own = record_in(rec);
-    let asking = identity_in(identity);
-    let shape = form_in(form);
-    of_sequence(nak_sequence::write_nak_sequence(
-        own, list, asking, shape, largest, cursor, budget, buf,
-    ))
+    let order = Order {
+        identity: Identity::from(identity),
+        form: Form::from(form),
+        largest,
+        cursor,
+        budget,
+    };
+    PusmarkeAnswer::from(write_nak_sequence(Reception::from(rec), list, order, buf))
 }

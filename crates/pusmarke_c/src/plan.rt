@@ -6,9 +6,10 @@ ghost use Rattle.c_values.specs.Input.{record_in, identity_in, edition_in};
 ghost use Rattle.answers.specs.Answer.{answer_of};
 
 use answers::PusmarkeAnswer;
-use answers::plan::of_plan;
-use c_values::inner::{edition_in, identity_in, record_in};
+use c_values::inner::edition_in;
 use c_values::{PusmarkeIdentity, PusmarkeReception};
+use nak::Identity;
+use reception::Reception;
 
 #[unsafe(no_mangle)]
 pub extern "C" fn pusmarke_check_plan(
@@ -25,8 +26,8 @@ pub extern "C" fn pusmarke_check_plan(
     ensures scratch_after { scratch.new ≡ plan_scratch (record_in rec) list.now (identity_in identity)
         (plan (edition_in older) lengths.now buf.now) scratch.old }
 {
-    let own = record_in(rec);
-    let asking = identity_in(identity);
     let edition = edition_in(older);
-    of_plan(planner::check_plan(own, list, asking, edition, lengths, buf, scratch))
+    let own = Reception::from(rec);
+    let asking = Identity::from(identity);
+    PusmarkeAnswer::from(planner::check_plan(own, list, asking, edition, lengths, buf, scratch))
 }

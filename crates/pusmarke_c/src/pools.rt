@@ -10,17 +10,16 @@ ghost use Rattle.c_pool.specs.Input.{pool_in};
 ghost use Rattle.c_pool.specs.Output.{empty_pool, added, pool_after};
 
 use answers::PusmarkeAnswer;
-use answers::pdus::of_sequence;
-use answers::report::{of_held, of_missing_octets};
 use c_pool::PusmarkePool;
-use c_pool::inner::pool_in;
 use c_pool::transfers::{empty_pool, one_more};
 use c_pool::whole::{pool_data_whole, pool_eof_whole, pool_metadata_whole};
-use c_values::inner::{form_in, identity_in};
 use c_values::{PusmarkeForm, PusmarkeIdentity};
+use nak::{Form, Identity};
 use pool_report::held::pool_held;
 use pool_report::missing_octets::pool_missing_octets;
 use pool_report::sequence_of::write_pool_sequence;
+use pooling::Pool;
+use sequence::Order;
 
 // A pool without transfers.
 #[unsafe(no_mangle)]
@@ -56,8 +55,7 @@ pub extern "C" fn pusmarke_pool_data(
         × ((pool.new ≡ pool_after pool.old list.old i (Data offset length))
         × (list.new ≡ event_list (pool_in pool.old) list.old i (Data offset length))) }
 {
-    let own = *pool;
-    let done = pool_data_whole(own, list, i, offset, length);
+    let done = pool_data_whole(*pool, list, i, offset, length);
     *pool = done.pool;
     done.answer
 }
@@ -72,8 +70,7 @@ pub extern "C" fn pusmarke_pool_metadata(
     ensures { (result ≡ answer_of (event_outcome (pool_in pool.old) list.now i Metadata))
         × (pool.new ≡ pool_after pool.old list.now i Metadata) }
 {
-    let own = *pool;
-    let done = pool_metadata_whole(own, list, i);
+    let done = pool_metadata_whole(*pool, list, i);
     *pool = done.pool;
     done.answer
 }
@@ -90,8 +87,7 @@ pub extern "C" fn pusmarke_pool_eof(
         × ((pool.new ≡ pool_after pool.old list.old i (Eof size))
         × (list.new ≡ event_list (pool_in pool.old) list.old i (Eof size))) }
 {
-    let own = *pool;
-    let done = pool_eof_whole(own, list, i, size);
+    let done = pool_eof_whole(*pool, list, i, size);
     *pool = done.pool;
     done.answer
 }
@@ -107,8 +103,7 @@ pub extern "C" fn pusmarke_pool_held(
 ) -> PusmarkeAnswer
     ensures { result ≡ answer_of (pool_held_outcome (pool_in pool) list.now i start end) }
 {
-    let own = pool_in(pool);
-    of_held(pool_held(own, list, i, start, end))
+    PusmarkeAnswer::from(pool_held(Pool::from(pool), list, i, start, end))
 }
 
 #[unsafe(no_mangle)]
@@ -119,8 +114,7 @@ pub extern "C" fn pusmarke_pool_missing_octets(
 ) -> PusmarkeAnswer
     ensures { result ≡ answer_of (pool_missing_outcome (pool_in pool) list.now i) }
 {
-    let whole = pool_in(pool);
-    of_missing_octets(pool_missing_octets(whole, list, i))
+    PusmarkeAnswer::from(pool_missing_octets(Pool::from(pool), list, i))
 }
 
 #[unsafe(no_mangle)]
@@ -138,8 +132,12 @@ pub extern "C" fn pusmarke_pool_nak_sequence(
     ensures value { result ≡ answer_of (pool_sequence_outcome (pool_in pool) list.now i (order (identity_in identity) (form_in form) largest cursor budget) (length buf.old)) }
     ensures buf_after { buf.new ≡ pool_sequence_buffer (pool_in pool) list.now i (order (identity_in identity) (form_in form) largest cursor budget) buf.old }
 {
-    let own = pool_in(pool);
-    let asking = identity_in(identity);
-    let shape = form_in(form);
-    of_sequence(write_pool_sequence(own, list, i, asking, shape, largest, cursor, budget, buf))
+    let order = Order {
+        identity: Identity::from(identity),
+        form: Form::from(form),
+        largest,
+        cursor,
+        budget,
+    };
+    PusmarkeAnswer::from(write_pool_sequence(Pool::from(pool), list, i, order, buf))
 }

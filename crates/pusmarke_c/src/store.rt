@@ -10,7 +10,6 @@ ghost use Rattle.c_values.specs.Input.{store_of, flag_in};
 ghost use Rattle.answers.specs.Answer.{answer_of};
 
 use answers::PusmarkeAnswer;
-use answers::store::{of_add, of_coalesce, of_in_store, of_insert, of_remove, of_write};
 use c_values::inner::{flag_in, store_of};
 use lost_segments::add::add;
 use lost_segments::coalesce::coalesce;
@@ -30,8 +29,7 @@ pub extern "C" fn pusmarke_add(
     ensures value { result ≡ answer_of (add_outcome list.old (store_of count narrow) start end) }
     ensures list_after { list.new ≡ add_list list.old (store_of count narrow) start end }
 {
-    let store = store_of(count, narrow);
-    of_add(add(store, list, start, end))
+    PusmarkeAnswer::from(add(store_of(count, narrow), list, start, end))
 }
 
 #[unsafe(no_mangle)]
@@ -45,8 +43,7 @@ pub extern "C" fn pusmarke_remove(
     ensures value { result ≡ answer_of (remove_outcome list.old (store_of count narrow) start end) }
     ensures list_after { list.new ≡ remove_list list.old (store_of count narrow) start end }
 {
-    let store = store_of(count, narrow);
-    of_remove(remove(store, list, start, end))
+    PusmarkeAnswer::from(remove(store_of(count, narrow), list, start, end))
 }
 
 #[unsafe(no_mangle)]
@@ -54,8 +51,7 @@ pub extern "C" fn pusmarke_coalesce(list: &mut [u64], count: usize, narrow: u64)
     ensures value { result ≡ answer_of (coalesce_outcome list.old (store_of count narrow)) }
     ensures list_after { list.new ≡ coalesce_list list.old (store_of count narrow) }
 {
-    let store = store_of(count, narrow);
-    of_coalesce(coalesce(store, list))
+    PusmarkeAnswer::from(coalesce(store_of(count, narrow), list))
 }
 
 #[unsafe(no_mangle)]
@@ -69,8 +65,7 @@ pub extern "C" fn pusmarke_insert(
     ensures value { result ≡ answer_of (insert_outcome list.old (store_of count narrow) start end) }
     ensures list_after { list.new ≡ insert_list list.old (store_of count narrow) start end }
 {
-    let store = store_of(count, narrow);
-    of_insert(insert(store, list, start, end))
+    PusmarkeAnswer::from(insert(store_of(count, narrow), list, start, end))
 }
 
 #[unsafe(no_mangle)]
@@ -83,8 +78,7 @@ pub extern "C" fn pusmarke_segment_in_store(
 ) -> PusmarkeAnswer
     ensures { result ≡ answer_of (in_store_outcome list.now (store_of count narrow) start end) }
 {
-    let store = store_of(count, narrow);
-    of_in_store(segment_in_store(store, list, start, end))
+    PusmarkeAnswer::from(segment_in_store(store_of(count, narrow), list, start, end))
 }
 
 #[unsafe(no_mangle)]
@@ -98,7 +92,10 @@ pub extern "C" fn pusmarke_write_segments_to_bytes(
     ensures value { result ≡ answer_of (to_bytes_outcome list.now (store_of count narrow) (flag_in large) buf.old) }
     ensures buf_after { buf.new ≡ to_bytes_buffer list.now (store_of count narrow) (flag_in large) buf.old }
 {
-    let store = store_of(count, narrow);
-    let flag = flag_in(large);
-    of_write(write_segments_to_bytes(store, list, buf, flag))
+    PusmarkeAnswer::from(write_segments_to_bytes(
+        store_of(count, narrow),
+        list,
+        buf,
+        flag_in(large),
+    ))
 }

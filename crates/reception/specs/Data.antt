@@ -1,23 +1,28 @@
 -- The data event (offset, length) (document 01, "Reception events"; its gap is inserted: document 02, C-19).
-use Rattle.std.specs.Prelude.{ℕ, ◌+◌, max, Bool, true, false, ◌&&◌, cond, List, [], ◌∷◌, ◌++◌, length, ltb, eqb}
+use Rattle.std.specs.Prelude.{ℕ, ◌+◌, max, Bool, true, false, ◌&&◌, cond, List, [], ◌∷◌, ◌++◌, length, ltb, eqb, Result}
 use Rattle.ranges.specs.Range.{Range, range}
 use Rattle.ranges.specs.Store.{counted, capacity, limit_of, stored}
 use Rattle.ranges.specs.Without.{without}
 use Rattle.ranges.specs.Insert.{join}
 use Rattle.outcomes.specs.Outcome.{Outcome, accepted, lent}
+use Rattle.outcomes.specs.Answered.{answered}
 use Rattle.outcomes.specs.Refusal.{refusing}
+use Rattle.outcomes.specs.declared.Refusal.{Refusal}
 use Rattle.outcomes.specs.Checks.{Check, first_of}
 use Rattle.outcomes.specs.declared.Refusal.TheVariants as refusal
 use Rattle.reception.specs.declared.Reception.{Reception}
-use Rattle.reception.specs.declared.data.DataAnswer.{DataAnswer}
-use Rattle.reception.specs.declared.data.DataAnswer.TheVariants as answer
+use Rattle.reception.specs.declared.data.Received.{Received}
+use Rattle.reception.specs.declared.data.Received.TheVariants as received
 use Rattle.reception.specs.Record.{waiting_ranges, record_checks, moved}
 
--- The number and the values of each case of the answer: 0 where the range is noticed, 1 where it is kept.
-abbrev pub data_case : DataAnswer → Outcome
-data_case answer.Noticed = accepted (0 ∷ [])
-data_case answer.Kept = accepted (1 ∷ [])
-data_case (answer.Refused r) = refusing r
+-- The number of what the event does: 0 where the range is noticed, 1 where it is kept.
+abbrev pub received_values : Received → List ℕ
+received_values received.Noticed = 0 ∷ []
+received_values received.Kept = 1 ∷ []
+
+-- The number and the values of the answer.
+abbrev pub data_case : Result Received Refusal → Outcome
+data_case = answered received_values
 
 -- Known: offsets of (a, e) leave the list, across several ranges if need be. If the offset a is above progress p, offsets from
 -- progress up to it become missing: the gap (p, a) is inserted; where a is not above p, that range is empty and adds nothing.

@@ -1,22 +1,21 @@
 -- The EOF event with the file size z (document 02, C-14).
-use Rattle.std.specs.Prelude.{ℕ, Bool, true, false, ◌&&◌, ◌||◌, not, cond, List, [], ◌∷◌, ◌++◌, length, ltb, eqb}
+use Rattle.std.specs.Prelude.{ℕ, Bool, true, false, ◌&&◌, ◌||◌, not, cond, List, [], ◌∷◌, ◌++◌, length, ltb, eqb, Result, ⊤}
 use Rattle.ranges.specs.Range.{Range, range}
 use Rattle.ranges.specs.Store.{counted, capacity, limit_of, stored}
 use Rattle.ranges.specs.Insert.{join}
 use Rattle.outcomes.specs.Outcome.{Outcome, accepted, lent}
+use Rattle.outcomes.specs.Answered.{answered, nothing}
 use Rattle.outcomes.specs.Refusal.{refusing}
 use Rattle.outcomes.specs.Checks.{Check, first_of}
 use Rattle.outcomes.specs.declared.Refusal.TheVariants as refusal
+use Rattle.outcomes.specs.declared.Refusal.{Refusal}
 use Rattle.reception.specs.declared.Reception.{Reception}
-use Rattle.reception.specs.declared.eof.EofAnswer.{EofAnswer}
-use Rattle.reception.specs.declared.eof.EofAnswer.TheVariants as answer
 use Rattle.reception.specs.Record.{waiting_ranges, record_checks, ended}
 use Rattle.reception.specs.Data.{is_full}
 
 -- The number and the values of each case of the answer.
-abbrev pub eof_case : EofAnswer → Outcome
-eof_case answer.Ended = accepted []
-eof_case (answer.Refused r) = refusing r
+abbrev pub eof_case : Result ⊤ Refusal → Outcome
+eof_case = answered nothing
 
 -- The ranges that the event leaves if it is accepted. Waiting: the list becomes (0, z), empty at z = 0. Known: progress p up to z becomes
 -- missing, joined to the last range if they touch; where z is p, nothing does.

@@ -1,18 +1,16 @@
 -- The metadata event (document 01, "Reception events").
-use Rattle.std.specs.Prelude.{ℕ, not, List, [], ◌∷◌, ◌++◌}
+use Rattle.std.specs.Prelude.{ℕ, not, List, [], ◌∷◌, ◌++◌, Result, ⊤}
 use Rattle.outcomes.specs.Outcome.{Outcome, accepted, lent}
-use Rattle.outcomes.specs.Refusal.{refusing}
+use Rattle.outcomes.specs.Answered.{answered, nothing}
 use Rattle.outcomes.specs.Checks.{Check, first_of}
 use Rattle.outcomes.specs.declared.Refusal.TheVariants as refusal
+use Rattle.outcomes.specs.declared.Refusal.{Refusal}
 use Rattle.reception.specs.declared.Reception.{Reception}
-use Rattle.reception.specs.declared.metadata.MetadataAnswer.{MetadataAnswer}
-use Rattle.reception.specs.declared.metadata.MetadataAnswer.TheVariants as answer
 use Rattle.reception.specs.Record.{record_checks, known}
 
 -- The number and the values of each case of the answer.
-abbrev pub metadata_case : MetadataAnswer → Outcome
-metadata_case answer.Known = accepted []
-metadata_case (answer.Refused r) = refusing r
+abbrev pub metadata_case : Result ⊤ Refusal → Outcome
+metadata_case = answered nothing
 
 -- 19: the metadata is known.
 abbrev pub mark_checks : Reception → List Check

@@ -1,17 +1,8 @@
-// The data event's answer.
-use crate::Reception;
-use outcomes::Refusal;
+// What an accepted data event does.
 
-#[derive(Clone, Copy)]
-pub enum DataAnswer {
+// While the metadata is missing the range is noticed, and else it is kept.
+#[derive(Clone, Copy, Debug, PartialEq, Eq)]
+pub enum Received {
     Noticed,
     Kept,
-    Refused(Refusal),
-}
-
-// What a caller has after a step: the answer, and the record afterwards.
-#[derive(Clone, Copy)]
-pub struct DataDone {
-    pub answer: DataAnswer,
-    pub rec: Reception,
 }

@@ -16,10 +16,7 @@ fn none_shared(list: &[u64], count: usize, a: u64, b: u64) -> bool
     ensures { result ≡ not (some (shares a b) (counted list.now count)) }
 {
     let i = first_past(list, count, a);
-    if i == count {
-        return true;
-    }
-    b <= start_at(list, i)
+    i == count || b <= start_at(list, i)
 }
 
 // Whether metadata is known, b is at most progress and no offset of (a, b) is in the list.
@@ -28,13 +25,7 @@ pub fn is_held(rec: Reception, list: &[u64], a: u64, b: u64) -> bool
     requires coalesced { Coalesced (counted list.now rec.count) }
     ensures { result ≡ is_held rec list.now a b }
 {
-    if rec.missing {
-        return false;
-    }
-    if rec.progress < b {
-        return false;
-    }
-    none_shared(list, rec.count, a, b)
+    !rec.missing && b <= rec.progress && none_shared(list, rec.count, a, b)
 }
 
 // The number of offsets in the list. The lengths of its ranges are added up; they never pass the last end.
@@ -44,10 +35,8 @@ pub fn octets_in(list: &[u64], count: usize, progress: u64) -> u64
     ensures { result ≡ octets_below progress (counted list.now count) }
 {
     let mut octets = 0;
-    let mut i = 0;
-    while i < count {
+    for i in 0..count {
         octets += end_at(list, i) - start_at(list, i);
-        i += 1;
     }
     octets
 }

@@ -1,5 +1,6 @@
 -- The ranges of one transfer changed in the pool's list, with those behind them moved: down, where there are fewer, and the slots given up
 -- cleared; or up by one before the change.
+use Rattle.std.specs.Prelude.{Option, Some, None}
 use mathlib.Core.Path.{◌≡◌, refl, sym, ap, ap₂, ◌∙◌}
 use mathlib.Core.List.{List, [], ◌++◌, append_assoc, append-nil}
 use Prim.Native.Nat.{ℕ, suc, ◌+◌, ◌*◌, ◌-◌, ◌≤◌, ◌<◌}
@@ -12,8 +13,6 @@ use lib.Seq.{take_at, drop_at, drop-drop, take-append-le, drop-append-le, take-t
 use Rattle.ranges.specs.Range.{Range}
 use Rattle.ranges.specs.Store.{pairs, flat, counted, capacity, stored}
 use Rattle.ranges.specs.Inner.Cut.{cut_answer, cut_list}
-use Rattle.ranges.specs.declared.inner.cut.Remains.{Remains}
-use Rattle.ranges.specs.declared.inner.cut.Remains.TheVariants.{Full, Left}
 use Rattle.ranges.specs.Inner.Moves.{over, shifted, replaced}
 use Rattle.ranges.proofs.Flat.{length-flat}
 use Rattle.ranges.proofs.Cutting.{cut_told, full_told}
@@ -199,7 +198,7 @@ module _ (xs : List ℕ) (at m total : ℕ) (qs : List Range) (mt : at + m ≤ t
     pub gap-kept : (l : List ℕ) → l ≡ made → (length (gap_in l) ≡ 2 * (m + 1)) × (counted (gap_in l) m ≡ counted (part (2 * at) (2 * (at + m)) xs) m)
     gap-kept l e = (ap (λ (l : List ℕ). length (gap_in l)) e ∙ gap_length, ap (λ (l : List ℕ). counted (gap_in l) m) e ∙ gap-ranges)
 
-    pub grown : (f : List Range → List Range) (l ys : List ℕ) (r : Remains) → qs ≡ f (counted (part (2 * at) (2 * (at + m)) xs) m) → length qs ≡ suc m → l ≡ made
+    pub grown : (f : List Range → List Range) (l ys : List ℕ) (r : Option ℕ) → qs ≡ f (counted (part (2 * at) (2 * (at + m)) xs) m) → length qs ≡ suc m → l ≡ made
         → r ≡ cut_answer (capacity (gap_in l)) (f (counted (gap_in l) m)) → ys ≡ cut_list (capacity (gap_in l)) (f (counted (gap_in l) m)) m (gap_in l)
         → (r ≡ cut_answer (suc m) qs) × (with_part (2 * at) (2 * (at + (m + 1))) ys l ≡ cut_at (suc m) at m total qs xs)
     grown f l ys r q n e a b =
@@ -224,7 +223,7 @@ module _ (xs : List ℕ) (at m total : ℕ) (qs : List Range) (mt : at + m ≤ t
   held-capacity = let s : length held ≡ 2 * m = held-size xs at m (omega arith) in omega (arith, s)
 
   -- too few
-  pub held_full : (ys : List ℕ) → Full ≡ cut_answer (capacity held) qs → ys ≡ cut_list (capacity held) qs m held → (m < length qs) × (with_part (2 * at) (2 * (at + m)) ys xs ≡ xs)
+  pub held_full : (ys : List ℕ) → None ≡ cut_answer (capacity held) qs → ys ≡ cut_list (capacity held) qs m held → (m < length qs) × (with_part (2 * at) (2 * (at + m)) ys xs ≡ xs)
   held_full ys a b =
       let t : ltb (capacity held) (length qs) ≡ true = full_told (capacity held) qs a in
       let k : capacity held < length qs = ltb-true _ _ t in
@@ -236,7 +235,7 @@ module _ (xs : List ℕ) (at m total : ℕ) (qs : List Range) (mt : at + m ≤ t
       )
 
   -- enough
-  pub held-left : (ys : List ℕ) (n : ℕ) → Left n ≡ cut_answer (capacity held) qs → ys ≡ cut_list (capacity held) qs m held → (n ≡ length qs) × ((length qs ≤ m) × (ys ≡ stored qs m held))
+  pub held-left : (ys : List ℕ) (n : ℕ) → Some n ≡ cut_answer (capacity held) qs → ys ≡ cut_list (capacity held) qs m held → (n ≡ length qs) × ((length qs ≤ m) × (ys ≡ stored qs m held))
   held-left ys n a b =
       let t = cut_told (capacity held) n qs a in
       let k : length qs ≤ capacity held = ltb-false _ _ t.0 in
@@ -244,11 +243,11 @@ module _ (xs : List ℕ) (at m total : ℕ) (qs : List Range) (mt : at + m ≤ t
 
   pub held-ends : (ys l : List ℕ) (n room : ℕ) → m ≤ room → n ≡ length qs → length qs ≤ m → ys ≡ stored qs m held
       → l ≡ closed_up at m n total (with_part (2 * at) (2 * (at + m)) ys xs)
-      → (Left n ≡ cut_answer room qs) × (l ≡ cut_at room at m total qs xs)
+      → (Some n ≡ cut_answer room qs) × (l ≡ cut_at room at m total qs xs)
   held-ends ys l n room h e s v d =
       let k : ltb room (length qs) ≡ false = le-ltb room (length qs) (omega (arith, h, s)) in
       let l₁ : List ℕ = with_part (2 * at) (2 * (at + m)) (stored qs m held) xs in (
-        rw k (ap Left e),
+        rw k (ap Some e),
         d
             ∙ ap₂ (λ (u : List ℕ) (n : ℕ). closed_up at m n total (with_part (2 * at) (2 * (at + m)) u xs)) v e
             ∙ moved_down s l₁ (shifted l₁ (2 * (at + m)) (2 * (at + length qs)) behind) _ refl refl refl

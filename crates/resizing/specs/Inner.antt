@@ -1,8 +1,20 @@
 -- What the inner functions leave in the pool's list on the way. The contracts of the calls do not cite it.
-use Rattle.std.specs.Prelude.{ℕ, ◌+◌, ◌*◌, ◌-◌, cond, List, ◌++◌, ltb, length, take, drop, replicate}
+use Rattle.std.specs.Prelude.{ℕ, suc, ◌+◌, ◌*◌, ◌-◌, ◌≤◌, cond, List, ◌++◌, ltb, length, take, drop, replicate}
 use Rattle.ranges.specs.Range.{Range}
-use Rattle.ranges.specs.Store.{counted, stored}
+use Rattle.ranges.specs.Store.{counted, stored, most_numbers}
 use Rattle.ranges.specs.Inner.Moves.{over, shifted, replaced}
+use Rattle.pooling.specs.Share.{part}
+use Rattle.resizing.specs.declared.inner.place.Place.{Place}
+
+-- The place's ranges are among those of the list, and which they are; how many it has room for.
+abbrev pub LiesIn : Place → List ℕ → Type 0
+LiesIn w xs = (w.at + w.count ≤ w.total) × ((2 * w.total ≤ length xs) × (length xs ≤ most_numbers))
+
+abbrev pub ranges_at : Place → List ℕ → List Range
+ranges_at w xs = counted (part (2 * w.at) (2 * (w.at + w.count)) xs) w.count
+
+abbrev pub room_at : Place → ℕ
+room_at w = cond w.full w.count (suc w.count)
 
 -- The list xs with `total` ranges, once qs stand in place of the m from place `at` on; as it was where there is no room for qs.
 abbrev pub cut_at : ℕ → ℕ → ℕ → ℕ → List Range → List ℕ → List ℕ

@@ -10,8 +10,5 @@ pub mod inner;
 pub fn bad_store(list: &[u64], count: usize, top: u64) -> bool
     ensures { result ≡ is_bad_store list.now count top }
 {
-    if inner::checks::bad_shape(list, count) {
-        return true;
-    }
-    inner::checks::any_above(list, 2 * count, top)
+    inner::checks::bad_shape(list, count) || inner::checks::any_above(list, 2 * count, top)
 }

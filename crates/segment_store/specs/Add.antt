@@ -1,20 +1,18 @@
 -- add appends, without looking for overlap (document 01, "Ranges and the store").
-use Rattle.std.specs.Prelude.{ℕ, ◌+◌, ◌≤◌, ◌<◌, ◌≡◌, false, List, [], ◌∷◌, ◌++◌, ltb, eqb}
+use Rattle.std.specs.Prelude.{ℕ, ◌+◌, ◌≤◌, ◌<◌, ◌≡◌, false, List, [], ◌∷◌, ◌++◌, ltb, eqb, Result}
 use Rattle.ranges.specs.Range.{range}
 use Rattle.ranges.specs.Store.{counted, capacity, limit_of, is_bad_store, either_above, stored}
 use Rattle.outcomes.specs.Outcome.{Outcome, accepted, lent}
-use Rattle.outcomes.specs.Refusal.{refusing}
+use Rattle.outcomes.specs.Answered.{answered, itself}
 use Rattle.outcomes.specs.Checks.{Check, first_of}
 use Rattle.outcomes.specs.declared.Refusal.TheVariants as refusal
+use Rattle.outcomes.specs.declared.Refusal.{Refusal}
 use Rattle.segment_store.specs.declared.Store.{Store}
 use Rattle.segment_store.specs.Checks.{is_bad}
-use Rattle.segment_store.specs.declared.add.AddAnswer.{AddAnswer}
-use Rattle.segment_store.specs.declared.add.AddAnswer.TheVariants as answer
 
 -- The number and the values of each case of the answer; an accepted add hands back the new count.
-abbrev pub add_case : AddAnswer → Outcome
-add_case (answer.Added count) = accepted (count ∷ [])
-add_case (answer.Refused r) = refusing r
+abbrev pub add_case : Result ℕ Refusal → Outcome
+add_case = answered itself
 
 -- Checks: 10, 2, 3, 4 (narrow), 1. Full means count equals capacity.
 abbrev pub add_checks : List ℕ → Store → ℕ → ℕ → List Check

@@ -1,21 +1,19 @@
 -- coalesce drops pairs with e at most s, then leaves the maximal runs of the union, ascending (document 01, "Ranges and the
 -- store"). Only 10 refuses.
-use Rattle.std.specs.Prelude.{ℕ, List, [], ◌∷◌, length}
+use Rattle.std.specs.Prelude.{ℕ, List, [], ◌∷◌, length, Result}
 use Rattle.ranges.specs.Range.{Range}
 use Rattle.ranges.specs.Insert.{join}
 use Rattle.ranges.specs.Store.{counted, stored}
 use Rattle.outcomes.specs.Outcome.{Outcome, accepted, lent}
-use Rattle.outcomes.specs.Refusal.{refusing}
+use Rattle.outcomes.specs.Answered.{answered, itself}
 use Rattle.outcomes.specs.Checks.{first_of}
+use Rattle.outcomes.specs.declared.Refusal.{Refusal}
 use Rattle.segment_store.specs.declared.Store.{Store}
 use Rattle.segment_store.specs.Checks.{store_checks}
-use Rattle.segment_store.specs.declared.coalesce.CoalesceAnswer.{CoalesceAnswer}
-use Rattle.segment_store.specs.declared.coalesce.CoalesceAnswer.TheVariants as answer
 
 -- The number and the values of each case of the answer.
-abbrev pub coalesce_case : CoalesceAnswer → Outcome
-coalesce_case (answer.Coalesced count) = accepted (count ∷ [])
-coalesce_case (answer.Refused r) = refusing r
+abbrev pub coalesce_case : Result ℕ Refusal → Outcome
+coalesce_case = answered itself
 
 -- Each of the pairs rs in turn, put into the coalesced list qs.
 abbrev pub gather : List Range → List Range → List Range

@@ -1,22 +1,21 @@
 -- insert puts a range into a coalesced list and leaves exactly the counted ranges that coalesce would leave after an append with room
 -- (document 02, C-19).
-use Rattle.std.specs.Prelude.{ℕ, ◌≤◌, ◌<◌, ◌≡◌, false, not, cond, List, [], ◌∷◌, ◌++◌, length, ltb, eqb}
+use Rattle.std.specs.Prelude.{ℕ, ◌≤◌, ◌<◌, ◌≡◌, false, not, cond, List, [], ◌∷◌, ◌++◌, length, ltb, eqb, Result}
 use Rattle.ranges.specs.Range.{Range, range, Coalesced, is_coalesced}
 use Rattle.ranges.specs.Store.{counted, capacity, limit_of, is_bad_store, either_above, stored}
 use Rattle.outcomes.specs.Outcome.{Outcome, accepted, lent}
+use Rattle.outcomes.specs.Answered.{answered, itself}
 use Rattle.outcomes.specs.Refusal.{refusing}
 use Rattle.outcomes.specs.Checks.{Check, first_of}
 use Rattle.outcomes.specs.declared.Refusal.TheVariants as refusal
+use Rattle.outcomes.specs.declared.Refusal.{Refusal}
 use Rattle.segment_store.specs.declared.Store.{Store}
 use Rattle.segment_store.specs.Checks.{is_bad}
 use Rattle.segment_store.specs.Coalesce.{maximal_runs}
-use Rattle.segment_store.specs.declared.insert.InsertAnswer.{InsertAnswer}
-use Rattle.segment_store.specs.declared.insert.InsertAnswer.TheVariants as answer
 
 -- The number and the values of each case of the answer; an accepted insert hands back the new count.
-abbrev pub insert_case : InsertAnswer → Outcome
-insert_case (answer.Inserted count) = accepted (count ∷ [])
-insert_case (answer.Refused r) = refusing r
+abbrev pub insert_case : Result ℕ Refusal → Outcome
+insert_case = answered itself
 
 -- The ranges that insert leaves: the maximal runs of the counted ones and the new one behind them.
 abbrev pub insert_leaves : List ℕ → Store → ℕ → ℕ → List Range

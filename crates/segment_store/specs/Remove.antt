@@ -1,29 +1,34 @@
 -- remove takes the offsets of (a, b) out of a coalesced list (document 01, "Ranges and the store") and says what it did (document
 -- 02, C-16).
-use Rattle.std.specs.Prelude.{ℕ, ◌≤◌, ◌<◌, ◌≡◌, false, not, cond, length, ltb, eqb}
+use Rattle.std.specs.Prelude.{ℕ, ◌≤◌, ◌<◌, ◌≡◌, false, not, cond, length, ltb, eqb, Result}
 use mathlib.Core.List.{List, [], ◌∷◌, Memᴰ}
 use Rattle.ranges.specs.Range.{Range, Coalesced, some, inside, shares, is_coalesced, place, range_at}
 use Rattle.ranges.specs.Without.{without}
 use Rattle.ranges.specs.Store.{counted, capacity, limit_of, is_bad_store, either_above, stored}
 use Rattle.outcomes.specs.Outcome.{Outcome, accepted, lent}
+use Rattle.outcomes.specs.Answered.{answered}
 use Rattle.outcomes.specs.Refusal.{refusing}
+use Rattle.outcomes.specs.declared.Refusal.{Refusal}
 use Rattle.outcomes.specs.Checks.{Check, first_of}
 use Rattle.outcomes.specs.declared.Refusal.TheVariants as refusal
 use Rattle.segment_store.specs.declared.Store.{Store}
 use Rattle.segment_store.specs.Checks.{is_bad}
-use Rattle.segment_store.specs.declared.remove.RemoveAnswer.{RemoveAnswer}
-use Rattle.segment_store.specs.declared.remove.RemoveAnswer.TheVariants as answer
+use Rattle.segment_store.specs.declared.remove.Removed.{Removed}
+use Rattle.segment_store.specs.declared.remove.Removed.TheVariants as removed
 
--- The number and the values of each case of the answer: what left, the index of its range in the list before, and the count
--- afterwards. What left is 1 for a whole range, 2 for its left part, 3 for its right part, 4 for a part that splits it, and 0 for
--- none, which has no index: 0 stands there.
-abbrev pub remove_case : RemoveAnswer → Outcome
-remove_case (answer.Whole index count) = accepted (1 ∷ index ∷ count ∷ [])
-remove_case (answer.Left index count) = accepted (2 ∷ index ∷ count ∷ [])
-remove_case (answer.Right index count) = accepted (3 ∷ index ∷ count ∷ [])
-remove_case (answer.Split index count) = accepted (4 ∷ index ∷ count ∷ [])
-remove_case (answer.NotStored count) = accepted (0 ∷ 0 ∷ count ∷ [])
-remove_case (answer.Refused r) = refusing r
+-- The numbers of what remove takes out: what left, the index of its range in the list before, and the count afterwards. What left is
+-- 1 for a whole range, 2 for its left part, 3 for its right part, 4 for a part that splits it, and 0 for none, which has no index: 0
+-- stands there.
+abbrev pub removed_values : Removed → List ℕ
+removed_values (removed.Whole index count) = 1 ∷ index ∷ count ∷ []
+removed_values (removed.Left index count) = 2 ∷ index ∷ count ∷ []
+removed_values (removed.Right index count) = 3 ∷ index ∷ count ∷ []
+removed_values (removed.Split index count) = 4 ∷ index ∷ count ∷ []
+removed_values (removed.NotStored count) = 0 ∷ 0 ∷ count ∷ []
+
+-- The number and the values of the answer.
+abbrev pub remove_case : Result Removed Refusal → Outcome
+remove_case = answered removed_values
 
 -- What (a, b) takes of a range that it lies inside: all of it, the left part (a is the start), the right part (b is the end), or a
 -- part that leaves something on both sides.

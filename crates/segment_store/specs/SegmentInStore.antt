@@ -1,22 +1,19 @@
 -- segment_in_store (a, b) is yes exactly if some stored (s, e) has a at least s and b at most e. (a, b) is not checked: reversed
 -- pairs may say yes. Only 10 refuses (document 01, "Ranges and the store").
-use Rattle.std.specs.Prelude.{ℕ, ◌≤◌, cond}
+use Rattle.std.specs.Prelude.{ℕ, ◌≤◌, cond, Some, Result, Bool}
 use mathlib.Core.List.{List, [], ◌∷◌, Memᴰ}
 use Rattle.ranges.specs.Range.{Range, some, inside}
 use Rattle.ranges.specs.Store.{counted}
 use Rattle.outcomes.specs.Outcome.{Outcome, accepted}
-use Rattle.outcomes.specs.Refusal.{refusing}
+use Rattle.outcomes.specs.Answered.{answered, yes_or_no}
 use Rattle.outcomes.specs.Checks.{first_of}
+use Rattle.outcomes.specs.declared.Refusal.{Refusal}
 use Rattle.segment_store.specs.declared.Store.{Store}
 use Rattle.segment_store.specs.Checks.{store_checks}
-use Rattle.segment_store.specs.declared.segment_in_store.InStoreAnswer.{InStoreAnswer}
-use Rattle.segment_store.specs.declared.segment_in_store.InStoreAnswer.TheVariants as answer
 
 -- The number and the values of each case of the answer: 1 for yes and 0 for no.
-abbrev pub in_store_case : InStoreAnswer → Outcome
-in_store_case answer.Yes = accepted (1 ∷ [])
-in_store_case answer.No = accepted (0 ∷ [])
-in_store_case (answer.Refused r) = refusing r
+abbrev pub in_store_case : Result Bool Refusal → Outcome
+in_store_case = answered yes_or_no
 
 -- Checks: 10.
 abbrev pub in_store_outcome : List ℕ → Store → ℕ → ℕ → Outcome

@@ -1,23 +1,21 @@
 -- write_segments_to_bytes: big-endian start, end, F octets each; F is 4 (normal) or 8 (large) (document 01, "Ranges and the
 -- store").
-use Rattle.std.specs.Prelude.{ℕ, ◌*◌, not, List, [], ◌∷◌, length, take, eqb}
+use Rattle.std.specs.Prelude.{ℕ, ◌*◌, not, List, [], ◌∷◌, length, take, eqb, Result}
 use Rattle.ranges.specs.Store.{any_above}
 use Rattle.outcomes.specs.Outcome.{Outcome, accepted, lent}
-use Rattle.outcomes.specs.Refusal.{refusing}
+use Rattle.outcomes.specs.Answered.{answered, itself}
 use Rattle.outcomes.specs.Checks.{Check, first_of}
 use Rattle.outcomes.specs.declared.Refusal.TheVariants as refusal
+use Rattle.outcomes.specs.declared.Refusal.{Refusal}
 use Rattle.octets.specs.declared.LargeFileFlag.{LargeFileFlag}
 use Rattle.octets.specs.Flag.{field_length, largest_of}
 use Rattle.octets.specs.Octets.{fields}
 use Rattle.segment_store.specs.declared.Store.{Store}
 use Rattle.segment_store.specs.Checks.{is_bad}
-use Rattle.segment_store.specs.declared.write_segments_to_bytes.WriteAnswer.{WriteAnswer}
-use Rattle.segment_store.specs.declared.write_segments_to_bytes.WriteAnswer.TheVariants as answer
 
 -- The number and the values of each case of the answer; an accepted call hands back the number of octets written.
-abbrev pub to_bytes_case : WriteAnswer → Outcome
-to_bytes_case (answer.Written octets) = accepted (octets ∷ [])
-to_bytes_case (answer.Refused r) = refusing r
+abbrev pub to_bytes_case : Result ℕ Refusal → Outcome
+to_bytes_case = answered itself
 
 -- The octets that the counted pairs take: count × 2F.
 abbrev pub write_length : Store → LargeFileFlag → ℕ

@@ -9,7 +9,8 @@ use Rattle.outcomes.proofs.FirstOf.{first-none}
 use Rattle.reception.specs.Record.{record_checks, Passed}
 use Rattle.reception.specs.declared.Reception.{Reception}
 use Rattle.reception.proofs.Sound.{none-join}
-use Rattle.sequence.specs.Sequence.{Order, largest_budget, Allowed, asked, reported, order_checks, sequence_checks, sequence_outcome}
+use Rattle.sequence.specs.Sequence.{largest_budget, Allowed, asked, reported, order_checks, sequence_checks, sequence_outcome}
+use Rattle.sequence.specs.declared.Order.{Order}
 
 -- no check of a call is met, in numbers
 pub record Checked (rec : Reception) (xs : List ℕ) (o : Order) (given : ℕ) : Type 0 where

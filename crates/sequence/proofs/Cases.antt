@@ -1,13 +1,11 @@
 -- No two answers of the sequence have one outcome, so its statement allows one answer.
-use mathlib.Core.Path.{◌≡◌, sym, ap}
+use Rattle.std.specs.Prelude.{Result}
+use mathlib.Core.Path.{◌≡◌, refl}
+use lib.ListN.{get_or}
 use Rattle.outcomes.specs.declared.Refusal.{Refusal}
-use Rattle.outcomes.proofs.Refusals.{one-refusal, no_refusal, value}
-use Rattle.sequence.specs.Sequence.{sequence_case}
-use Rattle.sequence.specs.declared.SequenceAnswer.{SequenceAnswer}
-use Rattle.sequence.specs.declared.SequenceAnswer.TheVariants as answer
+use Rattle.outcomes.proofs.Answered.{one-answer}
+use Rattle.sequence.specs.Sequence.{sequence_case, sent_values}
+use Rattle.sequence.specs.declared.Sent.{Sent}
 
-pub one_sequence : (r s : SequenceAnswer) → sequence_case r ≡ sequence_case s → r ≡ s
-one_sequence (answer.Sent p o c) (answer.Sent q v d) e = λ i. answer.Sent (value 0 (e i)) (value 1 (e i)) (value 2 (e i))
-one_sequence (answer.Sent p o c) (answer.Refused s) e = absurd (no_refusal s (sym e))
-one_sequence (answer.Refused r) (answer.Sent p o c) e = absurd (no_refusal r e)
-one_sequence (answer.Refused r) (answer.Refused s) e = ap (λ (q : Refusal). answer.Refused q) (one-refusal r s e)
+pub one_sequence : (r s : Result Sent Refusal) → sequence_case r ≡ sequence_case s → r ≡ s
+one_sequence = one-answer sent_values (λ vs. record { pdus = get_or vs 0 0; octets = get_or vs 1 0; cursor = get_or vs 2 0 }) (λ s. refl)

@@ -23,7 +23,8 @@ use Rattle.reception.proofs.Records.{mark_metadata, progress-largest}
 use Rattle.reception.proofs.Answered.{size-is-progress}
 use Rattle.reception.proofs.Histories.{missing_exact, list-coalesced, always_sound}
 use Rattle.sequence.specs.Entries.{Asking, entries_of, rounded_up, naks, octets_of}
-use Rattle.sequence.specs.Sequence.{Order, Allowed, asked}
+use Rattle.sequence.specs.Sequence.{Allowed, asked}
+use Rattle.sequence.specs.declared.Order.{Order}
 use Rattle.sequence.specs.Calls.{Call, Fits, AllFit, answered, cursor_after, pdus_by, octets_by, budgets, whole_sequence}
 use Rattle.sequence.specs.Parted.{parted, joined, AllRead, ScopesJoin, requests_read}
 use Rattle.sequence.proofs.Sizes.{each-low}

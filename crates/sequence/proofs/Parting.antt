@@ -18,7 +18,8 @@ use Rattle.nak_parsing.proofs.Reading.{read_of}
 use Rattle.reception.specs.declared.Reception.{Reception}
 use Rattle.reception.specs.Record.{Passed}
 use Rattle.sequence.specs.Entries.{Asking, rounded_up, scope_start, nak_at, naks, octets_of}
-use Rattle.sequence.specs.Sequence.{Order, Allowed, asked}
+use Rattle.sequence.specs.Sequence.{Allowed, asked}
+use Rattle.sequence.specs.declared.Order.{Order}
 use Rattle.sequence.specs.Parted.{said_length, parted_by, parted, joined, AllRead, ScopesJoin, requests_read}
 use Rattle.sequence.proofs.Sizes.{some-each, each-low, pdu-short}
 use Rattle.sequence.proofs.Readable.{scope-next, scope-end, pdu_readable}

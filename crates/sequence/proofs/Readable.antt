@@ -27,7 +27,8 @@ use Rattle.reception.proofs.Sound.{sound}
 use Rattle.reception.specs.declared.Reception.{Reception}
 use Rattle.ranges.proofs.Last.{ends_le, last-tail}
 use Rattle.sequence.specs.Entries.{Asking, asking, entries_of, end_of, scope_start, scope_end, nak_at}
-use Rattle.sequence.specs.Sequence.{Order, is_too_large, Allowed, asked}
+use Rattle.sequence.specs.Sequence.{is_too_large, Allowed, asked}
+use Rattle.sequence.specs.declared.Order.{Order}
 use Rattle.sequence.proofs.Sizes.{some-each, each-low, pdu-short, small_size}
 
 -- ranges that are not empty and end at p or before

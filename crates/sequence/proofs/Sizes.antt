@@ -11,7 +11,8 @@ use Rattle.nak.specs.Pdu.{pdu, pdu_length, per_pdu, is_too_small}
 use Rattle.nak.specs.Writer.{largest_pdu}
 use Rattle.nak.proofs.Room.{per_low, per_short}
 use Rattle.sequence.specs.Entries.{Asking, nak_at}
-use Rattle.sequence.specs.Sequence.{Order, is_bad_size}
+use Rattle.sequence.specs.Sequence.{is_bad_size}
+use Rattle.sequence.specs.declared.Order.{Order}
 
 -- the PDU from entry f on has at most k requests
 pub pdu-short : (a : Asking) (p f : ℕ) → a.each ≡ per_pdu a.form a.identity p → pdu_length a.form a.identity 2 ≤ p → length (pdu (nak_at a f)) ≤ p

@@ -16,7 +16,8 @@ use Rattle.nak.specs.Pdu.{Nak, pdu}
 use Rattle.reception.specs.declared.Reception.{Reception}
 use Rattle.reception.specs.Record.{Passed}
 use Rattle.sequence.specs.Entries.{Asking, rounded_up, nak_at, naks, octets_of}
-use Rattle.sequence.specs.Sequence.{Order, is_bad_size, Allowed, asked, sent, new_cursor, reported}
+use Rattle.sequence.specs.Sequence.{is_bad_size, Allowed, asked, sent, new_cursor, reported}
+use Rattle.sequence.specs.declared.Order.{Order}
 use Rattle.sequence.specs.Calls.{Call, Fits, AllFit, calling, answered, buffer_after, pdus_in, octets_in, cursor_in, cursor_after, pdus_by, octets_by, budgets, whole_sequence}
 use Rattle.sequence.proofs.Accepted.{seq_sent}
 use Rattle.sequence.proofs.Sizes.{each-low}

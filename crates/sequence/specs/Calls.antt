@@ -3,7 +3,8 @@
 use Rattle.std.specs.Prelude.{ℕ, zero, ◌+◌, ◌*◌, ◌≤◌, List, [], ◌∷◌, ◌++◌, length, get_or, take}
 use Rattle.outcomes.specs.Outcome.{Outcome, lent}
 use Rattle.reception.specs.declared.Reception.{Reception}
-use Rattle.sequence.specs.Sequence.{Order, order, largest_budget, asked, sent, sequence_outcome, sequence_buffer}
+use Rattle.sequence.specs.Sequence.{order, largest_budget, asked, sent, sequence_outcome, sequence_buffer}
+use Rattle.sequence.specs.declared.Order.{Order}
 
 -- What a call of the run has of its own: a PDU budget and a buffer.
 pub record Call : Type 0 where

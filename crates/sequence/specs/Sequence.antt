@@ -1,10 +1,11 @@
 -- One call of the sequence (document 01, "The sequence").
-use Rattle.std.specs.Prelude.{ℕ, ◌+◌, ◌*◌, ◌-◌, min, ◌≡◌, Bool, false, ◌||◌, List, [], ◌∷◌, ◌++◌, length, take, drop, ltb}
+use Rattle.std.specs.Prelude.{ℕ, ◌+◌, ◌*◌, ◌-◌, min, ◌≡◌, Bool, false, ◌||◌, List, [], ◌∷◌, ◌++◌, length, take, drop, ltb, Result}
 use Rattle.ranges.specs.Store.{any_above}
 use Rattle.outcomes.specs.Outcome.{Outcome, accepted, lent}
-use Rattle.outcomes.specs.Refusal.{refusing}
+use Rattle.outcomes.specs.Answered.{answered}
 use Rattle.outcomes.specs.Checks.{Check, first_of}
 use Rattle.outcomes.specs.declared.Refusal.TheVariants as refusal
+use Rattle.outcomes.specs.declared.Refusal.{Refusal}
 use Rattle.octets.specs.Flag.{largest_of}
 use Rattle.nak.specs.declared.Form.{Form}
 use Rattle.nak.specs.declared.Identity.{Identity}
@@ -13,23 +14,19 @@ use Rattle.nak.specs.Pdu.{per_pdu, is_too_small}
 use Rattle.nak.specs.Writer.{is_bad_identity, largest_pdu}
 use Rattle.reception.specs.declared.Reception.{Reception}
 use Rattle.reception.specs.Record.{record_checks}
-use Rattle.sequence.specs.declared.SequenceAnswer.{SequenceAnswer}
-use Rattle.sequence.specs.declared.SequenceAnswer.TheVariants as answer
+use Rattle.sequence.specs.declared.Sent.{Sent}
+use Rattle.sequence.specs.declared.Order.{Order}
 use Rattle.sequence.specs.Entries.{Asking, asking_for, rounded_up, naks, octets_of}
 
--- The number and the values of each case of the answer; success answers the number of PDUs, the octets written and the new cursor.
-abbrev pub sequence_case : SequenceAnswer → Outcome
-sequence_case (answer.Sent pdus octets cursor) = accepted (pdus ∷ octets ∷ cursor ∷ [])
-sequence_case (answer.Refused r) = refusing r
+-- The number of PDUs, the octets written and the new cursor.
+abbrev pub sent_values : Sent → List ℕ
+sent_values s = s.pdus ∷ s.octets ∷ s.cursor ∷ []
 
--- What a call is asked: identity, form, the largest PDU P, a cursor j and a PDU budget g.
-pub record Order : Type 0 where
-  pub identity : Identity
-  pub form : Form
-  pub largest : ℕ
-  pub cursor : ℕ
-  pub budget : ℕ
+-- The number and the values of the answer.
+abbrev pub sequence_case : Result Sent Refusal → Outcome
+sequence_case = answered sent_values
 
+-- What a call is asked: identity d, form g, the largest PDU p, a cursor j and a PDU budget b.
 abbrev pub order : Identity → Form → ℕ → ℕ → ℕ → Order
 order d g p j b = record { identity = d; form = g; largest = p; cursor = j; budget = b }
 

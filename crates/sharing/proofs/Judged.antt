@@ -8,11 +8,9 @@ use lib.Dec.{eqb}
 use borrow.Author.Tests.{eqb-true}
 use Rattle.outcomes.specs.Outcome.{Outcome, accepted}
 use Rattle.outcomes.specs.Refusal.{refusing}
-use Rattle.outcomes.specs.Checks.{Check, first_of, NoneOf, verdict_case}
+use Rattle.outcomes.specs.Checks.{Check, first_of}
 use Rattle.outcomes.specs.declared.Refusal.{Refusal}
 use Rattle.outcomes.specs.declared.Refusal.TheVariants as refusal
-use Rattle.outcomes.specs.declared.Verdict.{Verdict}
-use Rattle.outcomes.specs.declared.Verdict.TheVariants as verdict
 use Rattle.outcomes.proofs.FirstOf.{first-refused, first-append, first-none, none_of}
 use Rattle.reception.specs.Record.{record_checks}
 use Rattle.pooling.specs.declared.Pool.{Pool}
@@ -55,20 +53,19 @@ module _ (p : Pool) (xs ys : List ℕ) (i : ℕ) (same : is_unknown p xs i ≡ f
           (ap (λ (rs : List Check). cond (any_below (is_bad_transfer p xs) p.used) (refusing refusal.BadStore) (first_of (rs ++ cs) behind)) (sym (same e f)))
 
   -- the checks before refuse
-  pub refused-before : (cs : List Check) (behind : Outcome) (v : Verdict) (r : Refusal) → verdict_case v ≡ first_of (other_checks p xs i) (accepted []) → v ≡ verdict.Refused r
+  pub refused-before : (cs : List Check) (behind : Outcome) (r : Refusal) → refusing r ≡ first_of (other_checks p xs i) (accepted [])
       → refusing r ≡ first_of (pool_checks p xs i ++ (record_checks (record_at p i) ys ++ cs)) behind
-  refused-before cs behind v r e f =
-      first-refused (other_checks p xs i) r (first_of (record_checks (record_at p i) (own_part p xs i) ++ cs) behind) (ap verdict_case (sym f) ∙ e)
+  refused-before cs behind r e =
+      first-refused (other_checks p xs i) r (first_of (record_checks (record_at p i) (own_part p xs i) ++ cs) behind) e
       ∙ judged cs behind
       ∙ sym (first-append (pool_checks p xs i) (record_checks (record_at p i) ys ++ cs) behind)
 
   -- they pass
-  pub passed-before : (cs : List Check) (behind o : Outcome) (v : Verdict) → verdict_case v ≡ first_of (other_checks p xs i) (accepted []) → v ≡ verdict.Passed
+  pub passed-before : (cs : List Check) (behind o : Outcome) → accepted [] ≡ first_of (other_checks p xs i) (accepted [])
       → o ≡ first_of (record_checks (record_at p i) (own_part p xs i) ++ cs) behind
       → o ≡ first_of (pool_checks p xs i ++ (record_checks (record_at p i) ys ++ cs)) behind
-  passed-before cs behind o v e f g =
-      let n : NoneOf (other_checks p xs i) = none_of (other_checks p xs i) (ap verdict_case (sym f) ∙ e) in
+  passed-before cs behind o e g =
       g
-      ∙ sym (first-none (other_checks p xs i) (first_of (record_checks (record_at p i) (own_part p xs i) ++ cs) behind) n)
+      ∙ sym (first-none (other_checks p xs i) (first_of (record_checks (record_at p i) (own_part p xs i) ++ cs) behind) (none_of (other_checks p xs i) e))
       ∙ judged cs behind
       ∙ sym (first-append (pool_checks p xs i) (record_checks (record_at p i) ys ++ cs) behind)

@@ -16,3 +16,7 @@ other_checks p xs i =
     (is_unknown p xs i, refusal.BadPool)
     ∷ (is_bad_share p xs || any_below (is_bad_other p xs i) p.used, refusal.BadStore)
     ∷ []
+
+-- What a call has of its transfer is told by no number.
+abbrev pub unnumbered : {A : Type 0} → A → List ℕ
+unnumbered a = []

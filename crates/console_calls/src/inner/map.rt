@@ -1,25 +1,28 @@
 // A picture of the file, over `held` and `segment_in_store`.
-ghost use Rattle.std.specs.Prelude.{◌≡◌, ◌+◌, ◌*◌, ◌/◌, ◌<◌, ◌≤◌};
+ghost use Rattle.std.specs.Prelude.{◌≡◌, ◌*◌, ◌/◌, ◌<◌, ◌≤◌};
 
-use answers::report::of_missing_octets;
+use crate::inner::store::store_of;
+use console_state::inner::failure::Answered;
 use console_state::inner::state::State;
-use console_state::inner::{refusals, state};
 use console_text::inner::print::Output;
-use console_text::inner::words::MOST_CELLS;
-use console_text::inner::{part, print};
-use holding::held::HeldAnswer;
+use console_text::inner::words::{BadWord, Words};
 use lost_segments::segment_in_store::segment_in_store;
 use reception::Reception;
 use report::held::held;
 use report::missing_octets::missing_octets;
-use segment_store::Store;
-use segment_store::segment_in_store::InStoreAnswer;
+use std::io::Write;
 
-// The smaller of two numbers.
-fn smaller(a: u64, b: u64) -> u64
-    ensures { (result ≤ a) × (result ≤ b) }
-{
-    if a < b { a } else { b }
+// The most cells of a picture.
+const MOST_CELLS: u64 = 200;
+
+// The word of `map`: how many cells.
+pub fn cells(words: &mut Words) -> Result<u64, BadWord> {
+    let cells = words.last_number()?;
+    if (1..=MOST_CELLS).contains(&cells) {
+        Ok(cells)
+    } else {
+        Err(BadWord)
+    }
 }
 
 // Where cell i of the file begins. The file's length is parted by the number of cells first: i times it can pass 64 bits.
@@ -31,59 +34,34 @@ fn cell_start(total: u64, cells: u64, i: u64) -> u64
 }
 
 // `#` where each octet was kept, `.` where each is missing, `+` where both are there.
-fn mark(rec: Reception, list: &[u64], from: u64, to: u64) -> u8 {
-    let kept = held(rec, list, from, to);
-    if let HeldAnswer::Yes = kept {
-        return b'#';
+fn mark(rec: Reception, list: &[u64], from: u64, to: u64) -> char {
+    if held(rec, list, from, to) == Ok(true) {
+        return '#';
     }
-    let width = rec.width;
-    let store = Store {
-        count: rec.count,
-        width,
-    };
-    let lost = segment_in_store(store, list, from, to);
-    if let InStoreAnswer::Yes = lost {
-        return b'.';
+    if segment_in_store(store_of(rec), list, from, to) == Ok(true) {
+        return '.';
     }
-    b'+'
+    '+'
 }
 
-fn marks(out: &mut Output, at: usize, rec: Reception, list: &[u64], total: u64, cells: u64) -> usize
-    requires { cells ≤ 200 }
-{
-    let mut place = at;
+// The marks of a record whose checks are made, up to the size where it is known, and else up to progress. The file has no fewer octets
+// than the picture has cells.
+pub fn draw(rec: Reception, list: &[u64], asked: u64, out: &mut Output) -> Answered {
+    let total = if rec.sized { rec.size } else { rec.progress };
+    let cells = asked.min(total).min(MOST_CELLS);
+    write!(out, "map ")?;
     let mut from = 0;
-    let mut i = 0;
-    while i < cells {
-        i += 1;
+    for i in 1..=cells {
         let to = cell_start(total, cells, i);
-        place = print::put(out, place, mark(rec, list, from, to));
+        write!(out, "{}", mark(rec, list, from, to))?;
         from = to;
     }
-    place
-}
-
-// How far the picture goes: up to the size where it is known, and else up to progress.
-fn file_end(rec: Reception) -> u64 {
-    if rec.sized { rec.size } else { rec.progress }
-}
-
-// The marks of a record whose checks are made. The file has no fewer octets than the picture has cells.
-pub fn draw(s: State, rec: Reception, list: &[u64], asked: u64, out: &mut Output) -> State {
-    let total = file_end(rec);
-    let cells = smaller(smaller(asked, total), MOST_CELLS);
-    let at = print::text(out, s.at, b"map ");
-    let end = marks(out, at, rec, list, total, cells);
-    state::answered(s, out, end)
+    Ok(writeln!(out)?)
 }
 
 // map: the checks of the record, then the marks.
-pub fn map(s: State, memory: &[u64], asked: u64, out: &mut Output) -> State {
-    let lent = part::first_numbers(memory, s.length);
-    let rec = s.rec;
-    let a = of_missing_octets(missing_octets(rec, &memory[..lent]));
-    if a.refusal != 0 {
-        return refusals::show_refusal(s, a, out);
-    }
-    draw(s, rec, &memory[..lent], asked, out)
+pub fn map(s: &State, words: &mut Words, out: &mut Output) -> Answered {
+    let asked = cells(words)?;
+    missing_octets(s.rec, s.lent())?;
+    draw(s.rec, s.lent(), asked, out)
 }

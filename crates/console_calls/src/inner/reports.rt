@@ -1,46 +1,26 @@
 // What a report asks: held and missing.
-use answers::PusmarkeAnswer;
-use answers::report::{of_held, of_missing_octets};
+use console_state::inner::failure::Answered;
 use console_state::inner::state::State;
-use console_state::inner::{refusals, state};
 use console_text::inner::print::Output;
-use console_text::inner::{part, print};
+use console_text::inner::words::Words;
+use report::missing_octets::missing_octets;
+use std::io::Write;
 
-pub fn held(s: State, memory: &[u64], start: u64, end: u64, out: &mut Output) -> State {
-    let lent = part::first_numbers(memory, s.length);
-    let rec = s.rec;
-    show_held(
-        s,
-        of_held(report::held::held(rec, &memory[..lent], start, end)),
-        out,
-    )
+pub fn held(s: &State, words: &mut Words, out: &mut Output) -> Answered {
+    let (start, end) = words.pair()?;
+    show_whether(report::held::held(s.rec, s.lent(), start, end)?, out)
 }
 
-pub fn show_held(s: State, a: PusmarkeAnswer, out: &mut Output) -> State {
-    if a.refusal != 0 {
-        return refusals::show_refusal(s, a, out);
-    }
-    if a.first == 0 {
-        return state::says(s, out, b"no");
-    }
-    state::says(s, out, b"yes")
+// A yes or a no.
+pub fn show_whether(yes: bool, out: &mut Output) -> Answered {
+    Ok(writeln!(out, "{}", if yes { "yes" } else { "no" })?)
 }
 
-pub fn missing(s: State, memory: &[u64], out: &mut Output) -> State {
-    let lent = part::first_numbers(memory, s.length);
-    let rec = s.rec;
-    show_missing(
-        s,
-        of_missing_octets(report::missing_octets::missing_octets(rec, &memory[..lent])),
-        out,
-    )
+pub fn missing(s: &State, words: &mut Words, out: &mut Output) -> Answered {
+    words.end()?;
+    show_missing(missing_octets(s.rec, s.lent())?, out)
 }
 
-pub fn show_missing(s: State, a: PusmarkeAnswer, out: &mut Output) -> State {
-    if a.refusal != 0 {
-        return refusals::show_refusal(s, a, out);
-    }
-    let at = print::text(out, s.at, b"missing");
-    let end = print::number(out, at, a.first);
-    state::answered(s, out, end)
+pub fn show_missing(octets: u64, out: &mut Output) -> Answered {
+    Ok(writeln!(out, "missing {octets}")?)
 }

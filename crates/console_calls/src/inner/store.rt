@@ -1,138 +1,77 @@
 // The store's calls.
-use console_state::inner::state::State;
-use console_state::inner::{refusals, state};
-use console_text::inner::print::Output;
-use console_text::inner::{part, print};
+use crate::inner::reports::show_whether;
+use console_state::inner::failure::{Answered, Failure};
+use console_state::inner::marks::Mark;
+use console_state::inner::state::{Room, State};
+use console_text::inner::print::{Hex, Output};
+use console_text::inner::words::Words;
+use lost_segments::segment_in_store::segment_in_store;
+use lost_segments::write_segments_to_bytes::write_segments_to_bytes;
+use octets::LargeFileFlag;
+use reception::Reception;
 use segment_store::Store;
+use segment_store::remove::Removed;
+use std::io::Write;
 
-fn store_of(s: State) -> Store {
-    let rec = s.rec;
-    let width = rec.width;
+pub fn store_of(rec: Reception) -> Store {
     Store {
         count: rec.count,
-        width,
+        width: rec.width,
     }
 }
 
-// The end of an accepted change: the new count.
-fn counted(s: State, out: &mut Output, at: usize, count: u64) -> State {
-    let end = print::number(out, at, count);
-    state::answered(state::with_count(s, count as usize), out, end)
+// An accepted change: the new count is kept, and told behind what was done.
+fn changed(s: &mut State, done: &str, count: usize, out: &mut Output) -> Answered {
+    s.rec.count = count;
+    Ok(writeln!(out, "{done} {count}")?)
 }
 
-// An accepted change: a word and the new count.
-fn changed(s: State, out: &mut Output, word: &[u8], count: u64) -> State {
-    let at = print::text(out, s.at, word);
-    counted(s, out, at, count)
+pub fn add(s: &mut State, words: &mut Words, out: &mut Output) -> Answered {
+    let (start, end) = words.pair()?;
+    let st = store_of(s.rec);
+    let count = lost_segments::add::add(st, s.lent_mut(), start, end)?;
+    changed(s, "added", count, out)
 }
 
-pub fn add(s: State, memory: &mut [u64], start: u64, end: u64, out: &mut Output) -> State {
-    let lent = part::first_numbers(memory, s.length);
-    let a = answers::store::of_add(lost_segments::add::add(
-        store_of(s),
-        &mut memory[..lent],
-        start,
-        end,
-    ));
-    if a.refusal != 0 {
-        return refusals::show_refusal(s, a, out);
-    }
-    changed(s, out, b"added", a.first)
+pub fn remove(s: &mut State, words: &mut Words, out: &mut Output) -> Answered {
+    let (start, end) = words.pair()?;
+    let st = store_of(s.rec);
+    let (part, index, count) = match lost_segments::remove::remove(st, s.lent_mut(), start, end)? {
+        Removed::NotStored(count) => return changed(s, "removed none", count, out),
+        Removed::Whole(index, count) => ("whole", index, count),
+        Removed::Left(index, count) => ("left", index, count),
+        Removed::Right(index, count) => ("right", index, count),
+        Removed::Split(index, count) => ("split", index, count),
+    };
+    s.rec.count = count;
+    Ok(writeln!(out, "removed {part} {index} {count}")?)
 }
 
-// What a removal did, by its number.
-fn removed_word(out: &mut Output, at: usize, what: u64) -> usize {
-    match what {
-        0 => print::text(out, at, b"removed none"),
-        1 => print::text(out, at, b"removed whole"),
-        2 => print::text(out, at, b"removed left"),
-        3 => print::text(out, at, b"removed right"),
-        _ => print::text(out, at, b"removed split"),
-    }
+pub fn coalesce(s: &mut State, words: &mut Words, out: &mut Output) -> Answered {
+    words.end()?;
+    let st = store_of(s.rec);
+    let count = lost_segments::coalesce::coalesce(st, s.lent_mut())?;
+    changed(s, "coalesced", count, out)
 }
 
-pub fn remove(s: State, memory: &mut [u64], start: u64, end: u64, out: &mut Output) -> State {
-    let lent = part::first_numbers(memory, s.length);
-    let a = answers::store::of_remove(lost_segments::remove::remove(
-        store_of(s),
-        &mut memory[..lent],
-        start,
-        end,
-    ));
-    if a.refusal != 0 {
-        return refusals::show_refusal(s, a, out);
-    }
-    let at = removed_word(out, s.at, a.first);
-    if a.first == 0 {
-        return counted(s, out, at, a.third);
-    }
-    let end = print::number(out, at, a.second);
-    counted(s, out, end, a.third)
+pub fn insert(s: &mut State, words: &mut Words, out: &mut Output) -> Answered {
+    let (start, end) = words.pair()?;
+    let st = store_of(s.rec);
+    let count = lost_segments::insert::insert(st, s.lent_mut(), start, end)?;
+    changed(s, "inserted", count, out)
 }
 
-pub fn coalesce(s: State, memory: &mut [u64], out: &mut Output) -> State {
-    let lent = part::first_numbers(memory, s.length);
-    let a = answers::store::of_coalesce(lost_segments::coalesce::coalesce(
-        store_of(s),
-        &mut memory[..lent],
-    ));
-    if a.refusal != 0 {
-        return refusals::show_refusal(s, a, out);
-    }
-    changed(s, out, b"coalesced", a.first)
+pub fn within(s: &State, words: &mut Words, out: &mut Output) -> Answered {
+    let (start, end) = words.pair()?;
+    let found = segment_in_store(store_of(s.rec), s.lent(), start, end)?;
+    show_whether(found, out)
 }
 
-pub fn insert(s: State, memory: &mut [u64], start: u64, end: u64, out: &mut Output) -> State {
-    let lent = part::first_numbers(memory, s.length);
-    let a = answers::store::of_insert(lost_segments::insert::insert(
-        store_of(s),
-        &mut memory[..lent],
-        start,
-        end,
-    ));
-    if a.refusal != 0 {
-        return refusals::show_refusal(s, a, out);
-    }
-    changed(s, out, b"inserted", a.first)
-}
-
-pub fn within(s: State, memory: &[u64], start: u64, end: u64, out: &mut Output) -> State {
-    let lent = part::first_numbers(memory, s.length);
-    let a = answers::store::of_in_store(lost_segments::segment_in_store::segment_in_store(
-        store_of(s),
-        &memory[..lent],
-        start,
-        end,
-    ));
-    if a.refusal != 0 {
-        return refusals::show_refusal(s, a, out);
-    }
-    if a.first == 0 {
-        return state::says(s, out, b"no");
-    }
-    state::says(s, out, b"yes")
-}
-
-pub fn octets(
-    s: State,
-    memory: &[u64],
-    large: u64,
-    length: u64,
-    buf: &mut [u8],
-    out: &mut Output,
-) -> State {
-    let lent = part::first_numbers(memory, s.length);
-    let n = part::first_octets(buf, length as usize);
-    let a = answers::store::of_write(
-        lost_segments::write_segments_to_bytes::write_segments_to_bytes(
-            store_of(s),
-            &memory[..lent],
-            &mut buf[..n],
-            state::flag_of(large),
-        ),
-    );
-    if a.refusal != 0 {
-        return refusals::show_refusal(s, a, out);
-    }
-    state::show_octets(s, b"octets ", buf, n, out)
+pub fn octets(s: &State, words: &mut Words, room: &mut Room, out: &mut Output) -> Answered {
+    let flag = LargeFileFlag::of(words.word()?)?;
+    let length = words.amount()?;
+    words.end()?;
+    let buf = room.octets.get_mut(..length).ok_or(Failure::BadLine)?;
+    write_segments_to_bytes(store_of(s.rec), s.lent(), buf, flag)?;
+    Ok(writeln!(out, "octets {}", Hex(buf))?)
 }

@@ -1,120 +1,77 @@
 // The timer of the deferred NAK procedure.
-use answers::refusal::of_refusal;
+use console_state::inner::failure::{Answered, Failure};
 use console_state::inner::state::State;
-use console_state::inner::{refusals, state};
 use console_text::inner::print::Output;
-use console_text::inner::{part, print};
+use console_text::inner::words::Words;
 use deferred::make::make;
 use deferred::reset::reset;
 use deferred::tick::tick;
-use deferring::make::MakeAnswer;
-use deferring::reset::ResetAnswer;
 use deferring::tick::TickAnswer;
 use deferring::{Activity, Deferred};
+use std::io::Write;
+
+// The most ticks of one line.
+const MOST_TICKS: u64 = 1000000;
 
 // defer: a new timer, to which each event goes from now on. Where it is refused, an earlier one stays.
-pub fn defer(s: State, d: u64, limit: u64, out: &mut Output) -> State {
-    let made = make(d, limit);
-    match made {
-        MakeAnswer::Made(timer) => state::says(state::with_timer(s, timer), out, b"ok"),
-        MakeAnswer::Refused(r) => refusals::show_refusal(s, of_refusal(r), out),
+pub fn defer(s: &mut State, words: &mut Words, out: &mut Output) -> Answered {
+    let (d, limit) = words.pair()?;
+    s.timer = Some(make(d, limit)?);
+    Ok(writeln!(out, "ok")?)
+}
+
+// The word for what a tick answers, of one that is not quiet.
+fn told(answer: TickAnswer) -> Option<&'static str> {
+    match answer {
+        TickAnswer::Quiet => None,
+        TickAnswer::Ask => Some("ask"),
+        TickAnswer::Limit => Some("limit"),
     }
 }
 
-// The ticks that were made, what the last of them answered, and the timer.
-#[derive(Clone, Copy)]
-struct Ticked {
-    timer: Deferred,
-    made: u64,
-    answer: TickAnswer,
-}
-
-// Ticked one at a time until the first that is not quiet, at most n.
-fn run(timer: Deferred, n: u64) -> Ticked {
-    let mut now = timer;
-    let mut made = 0;
-    while made < n {
-        let done = tick(now);
-        let answer = done.answer;
-        let after = done.timer;
-        now = after;
-        made += 1;
-        if is_told(answer) {
-            return Ticked {
-                timer: now,
-                made,
-                answer,
-            };
+// Ticked one at a time until the first that is not quiet, at most n: what the last of them told, and how many were made.
+fn run(timer: &mut Deferred, n: u64) -> (&'static str, u64) {
+    for made in 1..=n {
+        let done = tick(*timer);
+        *timer = done.timer;
+        if let Some(word) = told(done.answer) {
+            return (word, made);
         }
     }
-    Ticked {
-        timer: now,
-        made,
-        answer: TickAnswer::Quiet,
-    }
+    ("quiet", n)
 }
 
-fn is_told(answer: TickAnswer) -> bool {
-    match answer {
-        TickAnswer::Quiet => false,
-        TickAnswer::Ask => true,
-        TickAnswer::Limit => true,
+pub fn ticks(s: &mut State, words: &mut Words, out: &mut Output) -> Answered {
+    let n = words.last_number()?;
+    if !(1..=MOST_TICKS).contains(&n) {
+        return Err(Failure::BadLine);
     }
+    let mut timer = s.timer.ok_or(Failure::BadLine)?;
+    let (word, made) = run(&mut timer, n);
+    s.timer = Some(timer);
+    Ok(writeln!(out, "{word} {made}")?)
 }
 
-fn show_answer(out: &mut Output, at: usize, answer: TickAnswer) -> usize {
-    match answer {
-        TickAnswer::Quiet => print::text(out, at, b"quiet"),
-        TickAnswer::Ask => print::text(out, at, b"ask"),
-        TickAnswer::Limit => print::text(out, at, b"limit"),
-    }
+pub fn restart(s: &mut State, words: &mut Words, out: &mut Output) -> Answered {
+    words.end()?;
+    let timer = s.timer.ok_or(Failure::BadLine)?;
+    let done = reset(timer, s.rec, s.lent());
+    done.answer?;
+    s.timer = Some(done.timer);
+    Ok(writeln!(out, "ok")?)
 }
 
-pub fn ticks(s: State, n: u64, out: &mut Output) -> State {
-    if !state::is_timed(s) {
-        return state::error(s, out);
-    }
-    let timer = state::timer_of(s);
-    let done = run(timer, n);
-    let answer = done.answer;
-    let after = done.timer;
-    let at = show_answer(out, s.at, answer);
-    let end = print::number(out, at, done.made);
-    state::answered(state::with_timer(s, after), out, end)
-}
-
-pub fn restart(s: State, memory: &[u64], out: &mut Output) -> State {
-    if !state::is_timed(s) {
-        return state::error(s, out);
-    }
-    let lent = part::first_numbers(memory, s.length);
-    let timer = state::timer_of(s);
-    let rec = s.rec;
-    let done = reset(timer, rec, &memory[..lent]);
-    let answer = done.answer;
-    let after = done.timer;
-    match answer {
-        ResetAnswer::Restarted => state::says(state::with_timer(s, after), out, b"ok"),
-        ResetAnswer::Refused(r) => refusals::show_refusal(s, of_refusal(r), out),
-    }
-}
-
-fn show_activity(out: &mut Output, at: usize, activity: Activity) -> usize {
+fn word_of(activity: Activity) -> &'static str {
     match activity {
-        Activity::Idle => print::text(out, at, b"timer idle"),
-        Activity::Active => print::text(out, at, b"timer active"),
-        Activity::Deaf => print::text(out, at, b"timer deaf"),
+        Activity::Idle => "idle",
+        Activity::Active => "active",
+        Activity::Deaf => "deaf",
     }
 }
 
-pub fn show(s: State, out: &mut Output) -> State {
-    if !state::is_timed(s) {
-        return state::error(s, out);
-    }
-    let timer = state::timer_of(s);
-    let activity = timer.activity;
-    let mut at = show_activity(out, s.at, activity);
-    at = print::number(out, at, timer.left);
-    at = print::number(out, at, timer.counter);
-    state::answered(s, out, at)
+pub fn show(s: &State, words: &mut Words, out: &mut Output) -> Answered {
+    words.end()?;
+    let timer = s.timer.ok_or(Failure::BadLine)?;
+    let activity = word_of(timer.activity);
+    Ok(writeln!(out, "timer {activity} {} {}", timer.left, timer.counter)?)
 }

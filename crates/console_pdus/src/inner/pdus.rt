@@ -1,140 +1,131 @@
 // NAK PDUs: written, read, and the sequence.
 ghost use Rattle.std.specs.Prelude.{◌≤◌, length};
 
-use answers::PusmarkeAnswer;
-use console_state::inner::state::State;
-use console_state::inner::{refusals, state};
-use console_text::inner::print::Output;
-use console_text::inner::{part, print};
+use console_state::inner::failure::{Answered, Failure};
+use console_state::inner::marks::{Mark, Trailer};
+use console_state::inner::state::{Link, Room, State};
+use console_text::inner::print::{Hex, Output};
+use console_text::inner::words::{BadWord, Words};
 use nak::{Edition, Form, Identity};
-use nak_parsing::Step;
+use nak_parser::{read_pdu, requests};
+use nak_parsing::Said;
+use nak_reader::step_from;
 use nak_shape::inner::header_in;
 use octets::LargeFileFlag;
+use sequence::{Order, Sent};
+use std::io::Write;
 
-// The first five words of `write` and `nak`: the lengths of the identifiers, source, number, destination.
-pub fn identity_of(values: &[u64; 8274]) -> Identity {
-    Identity {
-        entity_length: values[0] as usize,
-        number_length: values[1] as usize,
-        source: values[2],
-        number: values[3],
-        destination: values[4],
-    }
+// The words that `write`, `nak` and `plan` begin with: the lengths of the identifiers, source, number, destination.
+pub fn identity_in(words: &mut Words) -> Result<Identity, BadWord> {
+    let entity_length = words.amount()?;
+    let number_length = words.amount()?;
+    let source = words.number()?;
+    let number = words.number()?;
+    let destination = words.number()?;
+    Ok(Identity {
+        entity_length,
+        number_length,
+        source,
+        number,
+        destination,
+    })
 }
 
-// The sixth is the mark of the PDUs' flag; the rest of their form is the link's.
-pub fn form_of(s: State, mark: u64) -> Form {
-    let edition = state::edition(s);
-    let flag = state::flag_of(mark);
-    let crc = s.crc;
-    Form { edition, flag, crc }
+// The PDUs' flag; the rest of their form is the link's.
+fn form_in(words: &mut Words, link: Link) -> Result<Form, BadWord> {
+    Ok(link.form(LargeFileFlag::of(words.word()?)?))
 }
 
-// The requests of `write` are the words behind the first nine.
-fn write_requests(
-    s: State,
-    values: &[u64; 8274],
-    requests: &[u64],
-    buf: &mut [u8],
-    out: &mut Output,
-) -> State {
-    let size = part::first_octets(buf, values[8] as usize);
-    let a = answers::pdu::of_write(nak_writer::write(
-        identity_of(values),
-        form_of(s, values[5]),
-        values[6],
-        values[7],
-        requests,
-        &mut buf[..size],
-    ));
-    if a.refusal != 0 {
-        return refusals::show_refusal(s, a, out);
-    }
-    state::show_octets(s, b"pdu ", buf, size, out)
+// write: one PDU, its requests the words behind the first nine.
+pub fn write(s: &State, words: &mut Words, room: &mut Room, out: &mut Output) -> Answered {
+    let identity = identity_in(words)?;
+    let form = form_in(words, s.link)?;
+    let start = words.number()?;
+    let end = words.number()?;
+    let length = words.amount()?;
+    let requests = words.numbers(&mut room.numbers)?;
+    let buf = room.octets.get_mut(..length).ok_or(Failure::BadLine)?;
+    nak_writer::write(identity, form, start, end, requests, buf)?;
+    Ok(writeln!(out, "pdu {}", Hex(buf))?)
 }
 
-pub fn write(
-    s: State,
-    values: &[u64; 8274],
-    words: &[u64],
-    n: usize,
-    buf: &mut [u8],
-    out: &mut Output,
-) -> State {
-    let to = part::at_most(n, words.len());
-    if to < 9 {
-        return state::error(s, out);
-    }
-    write_requests(s, values, &words[9..to], buf, out)
+fn show_identity(identity: Identity, out: &mut Output) -> Answered {
+    let Identity {
+        entity_length,
+        number_length,
+        source,
+        number,
+        destination,
+    } = identity;
+    Ok(write!(
+        out,
+        "nak {entity_length} {number_length} {source} {number} {destination}"
+    )?)
 }
 
-fn show_flag(out: &mut Output, at: usize, flag: LargeFileFlag) -> usize {
-    match flag {
-        LargeFileFlag::Normal => print::text(out, at, b" normal"),
-        LargeFileFlag::Large => print::text(out, at, b" large"),
-    }
-}
-
-fn show_trailer(out: &mut Output, at: usize, crc: bool) -> usize {
-    if crc {
-        print::text(out, at, b" crc")
-    } else {
-        print::text(out, at, b" plain")
-    }
-}
-
-// A step for each request of the part that holds them, and one that says the end.
-fn steps_of(part: &[u8], form: Form) -> usize {
-    part.len() / (2 * form.field_length()) + 1
-}
-
-// Steps the reader from a place to its end.
-fn show_requests(out: &mut Output, at: usize, packet: &[u8], from: usize, steps: usize) -> usize {
-    let mut printed = at;
-    let mut next = from;
-    let mut left = steps;
-    while 0 < left {
-        let found = nak_reader::step_from(packet, next);
-        let step = found.step;
-        let Step::Request(start, end) = step else {
-            return printed;
+// Steps the reader from a place to its end; the part that holds the requests has more octets than they are.
+fn show_requests(packet: &[u8], said: Said, out: &mut Output) -> Answered {
+    let mut at = said.from;
+    for _ in requests(packet, said.form.edition) {
+        let found = step_from(packet, at);
+        let Some((start, end)) = found.step else {
+            break;
         };
-        printed = print::number(out, printed, start);
-        printed = print::number(out, printed, end);
-        next = found.at;
-        left -= 1;
+        write!(out, " {start} {end}")?;
+        at = found.at;
     }
-    printed
+    Ok(writeln!(out)?)
 }
 
-fn read_packet(s: State, packet: &[u8], out: &mut Output) -> State {
-    let edition = state::edition(s);
-    let parsed = nak_reader::read_fields(packet, edition);
-    if parsed.refusal != 0 {
-        let a = answers::inner::with_two(parsed.refusal, parsed.start, parsed.end);
-        return refusals::show_refusal(s, a, out);
-    }
-    let identity = parsed.identity;
-    let form = parsed.form;
-    let flag = form.flag;
-    let mut at = print::text(out, s.at, b"nak");
-    at = print::number(out, at, identity.entity_length as u64);
-    at = print::number(out, at, identity.number_length as u64);
-    at = print::number(out, at, identity.source);
-    at = print::number(out, at, identity.number);
-    at = print::number(out, at, identity.destination);
-    at = show_flag(out, at, flag);
-    at = show_trailer(out, at, form.crc);
-    at = print::number(out, at, parsed.scope_start);
-    at = print::number(out, at, parsed.scope_end);
-    let steps = steps_of(nak_parser::requests(packet, edition), form);
-    at = show_requests(out, at, packet, parsed.next, steps);
-    state::answered(s, out, at)
+// read: what a packet says, and its requests.
+pub fn read(s: &State, words: &mut Words, room: &mut Room, out: &mut Output) -> Answered {
+    let packet = words.octets(&mut room.octets)?;
+    let said = read_pdu(packet, s.link.edition)?;
+    let trailer = if said.form.crc {
+        Trailer::Crc
+    } else {
+        Trailer::Plain
+    };
+    show_identity(said.identity, out)?;
+    write!(
+        out,
+        " {} {} {} {}",
+        said.form.flag.word(),
+        trailer.word(),
+        said.scope_start,
+        said.scope_end
+    )?;
+    show_requests(packet, said, out)
 }
 
-pub fn read(s: State, buf: &[u8], n: usize, out: &mut Output) -> State {
-    let size = part::first_octets(buf, n);
-    read_packet(s, &buf[..size], out)
+// The words of `nak`.
+#[derive(Clone, Copy)]
+pub struct Asked {
+    pub order: Order,
+    // The buffer's length.
+    pub length: usize,
+}
+
+impl Asked {
+    pub fn of(words: &mut Words, link: Link) -> Result<Asked, BadWord> {
+        let identity = identity_in(words)?;
+        let form = form_in(words, link)?;
+        let largest = words.amount()?;
+        let cursor = words.amount()?;
+        let budget = words.amount()?;
+        let length = words.amount()?;
+        words.end()?;
+        Ok(Asked {
+            order: Order {
+                identity,
+                form,
+                largest,
+                cursor,
+                budget,
+            },
+            length,
+        })
+    }
 }
 
 // The length of the first PDU of these octets, by its own header; all of them where no header fits.
@@ -146,60 +137,23 @@ fn pdu_length(octets: &[u8], edition: Edition) -> usize
         return all;
     }
     let header = header_in(octets, edition);
-    let start = part::at_most(header.length, all);
-    start + part::at_most(header.data_length, all - start)
+    header.length.saturating_add(header.data_length).min(all)
 }
 
-// A line for each PDU.
-fn show_pdus(s: State, octets: &[u8], pdus: u64, out: &mut Output) -> State {
-    let edition = state::edition(s);
-    let mut next = s;
-    let mut at = 0;
-    let mut left = pdus;
-    while 0 < left {
-        let end = at + pdu_length(&octets[at..], edition);
-        let word = print::text(out, next.at, b"pdu ");
-        let place = print::hex(out, word, &octets[at..end]);
-        next = state::answered(next, out, place);
-        at = end;
-        left -= 1;
+// A line for each PDU that was written, and then how many there are, their octets and the new cursor.
+pub fn show_sent(sent: Sent, written: &[u8], edition: Edition, out: &mut Output) -> Answered {
+    let mut rest = &written[..written.len().min(sent.octets)];
+    for _ in 0..sent.pdus {
+        let (pdu, others) = rest.split_at(pdu_length(rest, edition));
+        writeln!(out, "pdu {}", Hex(pdu))?;
+        rest = others;
     }
-    next
+    Ok(writeln!(out, "sent {} {} {}", sent.pdus, sent.octets, sent.cursor)?)
 }
 
-// The PDUs, and then how many there are, their octets and the new cursor.
-pub fn show_sent(s: State, octets: &[u8], a: PusmarkeAnswer, out: &mut Output) -> State {
-    let next = show_pdus(s, octets, a.first, out);
-    let mut at = print::text(out, next.at, b"sent");
-    at = print::number(out, at, a.first);
-    at = print::number(out, at, a.second);
-    at = print::number(out, at, a.third);
-    state::answered(next, out, at)
-}
-
-pub fn sequence(
-    s: State,
-    memory: &[u64],
-    values: &[u64; 8274],
-    buf: &mut [u8],
-    out: &mut Output,
-) -> State {
-    let lent = part::first_numbers(memory, s.length);
-    let size = part::first_octets(buf, values[9] as usize);
-    let rec = s.rec;
-    let a = answers::pdus::of_sequence(nak_sequence::write_nak_sequence(
-        rec,
-        &memory[..lent],
-        identity_of(values),
-        form_of(s, values[5]),
-        values[6] as usize,
-        values[7] as usize,
-        values[8] as usize,
-        &mut buf[..size],
-    ));
-    if a.refusal != 0 {
-        return refusals::show_refusal(s, a, out);
-    }
-    let octets = part::first_octets(buf, a.second as usize);
-    show_sent(s, &buf[..octets], a, out)
+pub fn sequence(s: &State, words: &mut Words, room: &mut Room, out: &mut Output) -> Answered {
+    let asked = Asked::of(words, s.link)?;
+    let buf = room.octets.get_mut(..asked.length).ok_or(Failure::BadLine)?;
+    let sent = nak_sequence::write_nak_sequence(s.rec, s.lent(), asked.order, buf)?;
+    show_sent(sent, buf, s.link.edition, out)
 }

@@ -1,172 +1,89 @@
-// The pool's numbers, as the console keeps them: behind those of a line's words, from place 8,209 on. The first is 0 where there is no
-// pool, and else one more than the transfers; then come eight numbers of each of the first eight: progress, count, whether it is narrow,
-// missing and sized, its size, its floor and its limit.
-ghost use Rattle.std.specs.Prelude.{◌<◌, ◌≤◌};
+// The pool, and its transfers.
+ghost use Rattle.std.specs.Prelude.{◌<◌, IfOk};
 
-use console_state::inner::state;
-use console_text::inner::part;
+use console_state::inner::failure::{Answered, Failure};
+use console_state::inner::marks::Mark;
+use console_state::inner::state::State;
+use console_text::inner::print::Output;
+use console_text::inner::words::{BadWord, Words};
 use pooling::Pool;
+use ranges::Width;
 use reception::Reception;
+use std::io::Write;
 
-const POOLED: usize = 8209;
+// The most ranges of a pool, the most groups of words of `pool`, and the transfers that are kept.
+const MOST_RANGES: usize = 4100;
 
-const RECORDS: usize = 8210;
+const MOST_GROUPS: usize = 9;
 
-const MOST: usize = 8;
+const KEPT: usize = 8;
 
-pub fn is_pooled(values: &[u64; 8274]) -> bool {
-    values[POOLED] != 0
-}
-
-pub fn without_pool(values: &mut [u64; 8274]) {
-    values[POOLED] = 0;
-}
-
-// How many transfers there are.
-fn used(values: &[u64; 8274]) -> usize {
-    let n = values[POOLED] as usize;
-    if n == 0 { 0 } else { n - 1 }
-}
-
-// Whether the console keeps numbers of transfer i.
-pub fn is_kept(values: &[u64; 8274], i: usize) -> bool {
-    if MOST <= i {
-        return false;
+// Fresh transfers, a group of three words for each: width, floor, limit. The calls refuse a pool of nine, of which eight are kept.
+fn pool_in(words: &mut Words) -> Result<Pool, BadWord> {
+    let mut pool = Pool::fresh(0, [Width::Wide; 8], [0; 8], [0; 8]);
+    for i in 0..MOST_GROUPS {
+        let Some(word) = words.next() else {
+            break;
+        };
+        let width = Width::of(word)?;
+        let floor = words.amount()?;
+        let limit = words.amount()?;
+        pool.used = i + 1;
+        if i < KEPT {
+            pool.records[i] = Reception::fresh(width);
+            pool.floors[i] = floor;
+            pool.limits[i] = limit;
+        }
     }
-    i < used(values)
+    words.end()?;
+    Ok(pool)
 }
 
-// Fresh transfer i, of its group of three words behind the first: width, floor, limit.
-fn lay_one(values: &mut [u64; 8274], i: usize)
-    requires { i < 8 }
-{
-    let from = 1 + 3 * i;
-    let at = RECORDS + 8 * i;
-    values[at] = 0;
-    values[at + 1] = 0;
-    values[at + 2] = values[from];
-    values[at + 3] = 1;
-    values[at + 4] = 0;
-    values[at + 5] = 0;
-    values[at + 6] = values[from + 1];
-    values[at + 7] = values[from + 2];
+// pool: fresh transfers over one list of that many ranges; no timer.
+pub fn pool(s: &mut State, words: &mut Words, out: &mut Output) -> Answered {
+    let ranges = words.amount_to(MOST_RANGES)?;
+    let pool = pool_in(words)?;
+    s.clear(ranges);
+    s.pool = Some(pool);
+    Ok(writeln!(out, "ok")?)
 }
 
-// Fresh transfers; of nine groups, which are refused by the calls, the first eight are kept.
-pub fn lay(values: &mut [u64; 8274], groups: usize)
-    requires { groups ≤ 9 }
-{
-    values[POOLED] = groups as u64 + 1;
-    let mut i = 0;
-    while i < 8 {
-        lay_one(values, i);
-        i += 1;
+// A transfer of the pool, by its number.
+#[derive(Clone, Copy)]
+pub struct Transfer {
+    pub pool: Pool,
+    pub number: usize,
+}
+
+impl Transfer {
+    // The transfer that the next word names, in a pool alone.
+    pub fn named(s: &State, words: &mut Words) -> Result<Transfer, Failure> {
+        let number = words.amount()?;
+        let pool = s.pool.ok_or(Failure::BadLine)?;
+        Ok(Transfer { pool, number })
     }
-}
 
-// The record of transfer i.
-pub fn record_at(values: &[u64; 8274], i: usize) -> Reception
-    requires { i < 8 }
-{
-    let at = RECORDS + 8 * i;
-    Reception {
-        progress: values[at],
-        count: values[at + 1] as usize,
-        width: state::width_of(values[at + 2]),
-        missing: values[at + 3] != 0,
-        sized: values[at + 4] != 0,
-        size: values[at + 5],
+    // Its place in the pool, if the console keeps it.
+    pub fn place(self) -> Result<usize, Failure>
+        ensures { IfOk result (λ place. place < KEPT) }
+    {
+        if self.number < self.pool.used && self.number < KEPT {
+            Ok(self.number)
+        } else {
+            Err(Failure::BadLine)
+        }
     }
-}
 
-fn mark(on: bool) -> u64 {
-    if on { 1 } else { 0 }
-}
-
-// All of a record but its width, which no command changes.
-pub fn keep(values: &mut [u64; 8274], i: usize, rec: Reception)
-    requires { i < 8 }
-{
-    let at = RECORDS + 8 * i;
-    values[at] = rec.progress;
-    values[at + 1] = rec.count as u64;
-    values[at + 3] = mark(rec.missing);
-    values[at + 4] = mark(rec.sized);
-    values[at + 5] = rec.size;
-}
-
-pub fn floor_at(values: &[u64; 8274], i: usize) -> usize
-    requires { i < 8 }
-{
-    values[RECORDS + 8 * i + 6] as usize
-}
-
-pub fn limit_at(values: &[u64; 8274], i: usize) -> usize
-    requires { i < 8 }
-{
-    values[RECORDS + 8 * i + 7] as usize
-}
-
-fn records(values: &[u64; 8274]) -> [Reception; 8] {
-    let a = record_at(values, 0);
-    let b = record_at(values, 1);
-    let c = record_at(values, 2);
-    let d = record_at(values, 3);
-    let e = record_at(values, 4);
-    let f = record_at(values, 5);
-    let g = record_at(values, 6);
-    let h = record_at(values, 7);
-    [a, b, c, d, e, f, g, h]
-}
-
-fn floors(values: &[u64; 8274]) -> [usize; 8] {
-    let a = floor_at(values, 0);
-    let b = floor_at(values, 1);
-    let c = floor_at(values, 2);
-    let d = floor_at(values, 3);
-    let e = floor_at(values, 4);
-    let f = floor_at(values, 5);
-    let g = floor_at(values, 6);
-    let h = floor_at(values, 7);
-    [a, b, c, d, e, f, g, h]
-}
-
-fn limits(values: &[u64; 8274]) -> [usize; 8] {
-    let a = limit_at(values, 0);
-    let b = limit_at(values, 1);
-    let c = limit_at(values, 2);
-    let d = limit_at(values, 3);
-    let e = limit_at(values, 4);
-    let f = limit_at(values, 5);
-    let g = limit_at(values, 6);
-    let h = limit_at(values, 7);
-    [a, b, c, d, e, f, g, h]
-}
-
-// The pool, unchecked.
-pub fn pool_of(values: &[u64; 8274]) -> Pool {
-    let own = records(values);
-    let low = floors(values);
-    let high = limits(values);
-    Pool {
-        used: used(values),
-        records: own,
-        floors: low,
-        limits: high,
+    // Its numbers in the pool's list, behind those of the transfers before it.
+    pub fn ranges(self, s: &State) -> Result<&[u64], Failure> {
+        let i = self.place()?;
+        let records = self.pool.records;
+        let before = records[..i]
+            .iter()
+            .fold(0usize, |sum, rec| sum.saturating_add(rec.count))
+            .min(MOST_RANGES);
+        let list = &s.memory[2 * before..];
+        let count = records[i].count.min(MOST_RANGES);
+        Ok(&list[..list.len().min(2 * count)])
     }
-}
-
-// Where the ranges of transfer i begin, in ranges; at most 4,100, which is all that the memory has.
-pub fn base_of(values: &[u64; 8274], i: usize) -> usize
-    requires { i ≤ 8 }
-    ensures { result ≤ 4100 }
-{
-    let mut base = 0;
-    let mut k = 0;
-    while k < i {
-        let rec = record_at(values, k);
-        base = part::at_most(base + part::at_most(rec.count, 4100), 4100);
-        k += 1;
-    }
-    base
 }

@@ -1,6 +1,16 @@
 // Inner: the pairs of a lent flat list, one by one. Nothing else says where the numbers of a pair lie.
-ghost use Rattle.std.specs.Prelude.{◌≡◌, ◌+◌, ◌*◌, ◌≤◌, length, set};
-ghost use Rattle.ranges.specs.Store.{start_at, end_at};
+ghost use Rattle.std.specs.Prelude.{◌≡◌, ◌+◌, ◌*◌, ◌≤◌, length, map, set};
+ghost use Rattle.lists.specs.Pairs.{pair_of};
+ghost use Rattle.ranges.specs.Store.{counted, start_at, end_at};
+
+// The first n pairs.
+pub fn counted(list: &[u64], n: usize) -> &[[u64; 2]]
+    requires { 2 * n ≤ length list.now }
+    ensures value { result.now ≡ map pair_of (counted list.now n) }
+    ensures len { length result.now ≡ n }
+{
+    &list.as_chunks::<2>().0[..n]
+}
 
 // The start of pair i.
 pub fn start_at(list: &[u64], i: usize) -> u64

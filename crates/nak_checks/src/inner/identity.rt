@@ -7,24 +7,17 @@ use nak::Identity;
 fn bad_length(length: usize) -> bool
     ensures { result ≡ is_bad_length length }
 {
-    if length == 0 { true } else { 8 < length }
+    length == 0 || 8 < length
 }
 
 // 13, the lengths before the numbers.
+#[tactic(auto, unfolding(nak::specs::Writer::is_bad_identity))]
 pub fn bad_identity(identity: Identity) -> bool
     ensures { result ≡ is_bad_identity identity }
 {
-    if bad_length(identity.entity_length) {
-        return true;
-    }
-    if bad_length(identity.number_length) {
-        return true;
-    }
-    if !octets::does_fit(identity.entity_length, identity.source) {
-        return true;
-    }
-    if !octets::does_fit(identity.number_length, identity.number) {
-        return true;
-    }
-    !octets::does_fit(identity.entity_length, identity.destination)
+    bad_length(identity.entity_length)
+        || bad_length(identity.number_length)
+        || !octets::does_fit(identity.entity_length, identity.source)
+        || !octets::does_fit(identity.number_length, identity.number)
+        || !octets::does_fit(identity.entity_length, identity.destination)
 }

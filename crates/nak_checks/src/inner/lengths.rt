@@ -1,9 +1,9 @@
 // How long a PDU and its parts are.
-ghost use Rattle.std.specs.Prelude.{◌≡◌, ◌≤◌, length};
-ghost use Rattle.ranges.specs.Store.{flat, most_numbers};
+ghost use Rattle.std.specs.Prelude.{◌≡◌, ◌≤◌};
+ghost use Rattle.ranges.specs.Store.{most_numbers};
 ghost use Rattle.octets.specs.Flag.{field_length};
 ghost use Rattle.nak.specs.Pdu.{header_length, data_length, pdu_length, per_pdu, is_too_small};
-ghost use Rattle.nak.specs.Inner.{metadata_first, GoodLengths};
+ghost use Rattle.nak.specs.Inner.{GoodLengths};
 
 use nak::{Form, Identity};
 
@@ -49,11 +49,4 @@ pub fn per_pdu(identity: Identity, form: Form, largest: usize) -> usize
     let h = header_length(identity.entity_length, identity.number_length);
     let f = form.field_length();
     (largest - form.trailer_length() - h - 1 - 2 * f) / (2 * f)
-}
-
-// How many numbers the metadata request has, where it is asked for.
-pub fn asked_numbers(metadata: bool) -> usize
-    ensures { result ≡ length (flat (metadata_first metadata)) }
-{
-    if metadata { 2 } else { 0 }
 }

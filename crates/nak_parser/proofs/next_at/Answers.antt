@@ -28,15 +28,15 @@ pub returns-then-total-at-2 : goal.returns-then-total-at-2
 unfolding step_outcome place_after
 returns-then-total-at-2 c =
     let p = c.args.packet.now in
-    let f = f_is p c.wide-octet.ensures c.flag_of-flag.ensures c.field_length-f.ensures in
-    let t = t-is p c.wide-octet.ensures c.trailer_of-t.ensures in
+    let f = f_is p c.from-octet.ensures c.flag_of.ensures c.field_length-f.ensures in
+    let t = t-is p c.from-octet.ensures c.trailer_of-t.ensures in
     rw (at-end p c.args.at (omega (arith, f, is-end p t, field-low p, trailer-high p, t))) (refl, refl)
 
 pub returns : goal.returns
 unfolding step_outcome place_after
 returns c =
     let p = c.args.packet.now in
-    let f = f_is p c.wide-octet.ensures c.flag_of-flag.ensures c.field_length-f.ensures in
-    let t = t-is p c.wide-octet.ensures c.trailer_of-t.ensures in
+    let f = f_is p c.from-octet.ensures c.flag_of.ensures c.field_length-f.ensures in
+    let t = t-is p c.from-octet.ensures c.trailer_of-t.ensures in
     let e = not-at_end p c.args.at (omega (arith, f, is-end p t)) in
     rw (e, c.get-start.ensures, c.get-end.ensures, f) (refl, refl)

@@ -5,6 +5,8 @@ use Rattle.outcomes.specs.Outcome.{accepted}
 use Rattle.outcomes.specs.Refusal.{refusing}
 use Rattle.outcomes.specs.Checks.{first_of}
 use Rattle.outcomes.specs.declared.Refusal.TheVariants as refusal
+use Rattle.outcomes.specs.Answered.{nothing}
+use Rattle.outcomes.proofs.Answered.{handed_on}
 use Rattle.outcomes.proofs.FirstOf.{first-none, first-refused, none_of}
 use Rattle.octets.specs.Flag.{largest_of}
 use Rattle.nak.specs.Pdu.{Nak, saying, pdu_length, pdu}
@@ -46,7 +48,7 @@ then_last b =
     let identity = sym b.bad_identity.ensures ∙ b.if-bad_identity.false in
     let reserved = sym b.reserved_set.ensures ∙ b.if-reserved_set.false in
     from-requests a.requests.now (saying a.form a.identity a.start a.end rs) a.given (accepted []) list identity reserved b.if-end-start.false
-    ∙ first-none (requests_checks rs) _ (none_of (requests_checks rs) b.in_default.ensures)
+    ∙ first-none (requests_checks rs) _ (none_of (requests_checks rs) b.in_ok-check_requests.ensures)
 
 -- the flat list is that of its pairs
 even : (b : After-any_number_above) → flat (pairs b.args.requests.now) ≡ b.args.requests.now
@@ -72,15 +74,17 @@ total b k =
     let e : pdu_length a.form a.identity (length a.requests.now) ≡ pdu_length a.form a.identity (length (flat (pairs a.requests.now))) = rw k in
     b.pdu_length-total.ensures ∙ e ∙ pdu-length (saying a.form a.identity a.start a.end (pairs a.requests.now))
 
-pub returns-in-Refused : goal.returns-in-Refused
-returns-in-Refused c =
+pub returns-in_err-check_requests : goal.returns-in_err-check_requests
+returns-in_err-check_requests c =
     let a = c.args in
     let rs = pairs a.requests.now in
     let n = saying a.form a.identity a.start a.end rs in
     let list = sym c.bad_list.ensures ∙ c.if-bad_list.false in
     let identity = sym c.bad_identity.ensures ∙ c.if-bad_identity.false in
     let reserved = sym c.reserved_set.ensures ∙ c.if-reserved_set.false in
-    first-refused (requests_checks rs) c.in-Refused.r (first_of (last_checks n a.given) (accepted [])) c.in-Refused.ensures
+    let r = c.in_err-check_requests in
+    handed_on nothing c.from_residual.result r.field-0.0 c.from_residual.ensures.1
+    ∙ first-refused (requests_checks rs) r.field-0.0 (first_of (last_checks n a.given) (accepted [])) r.ensures
     ∙ sym (from-requests a.requests.now n a.given (accepted []) list identity reserved c.if-end-start.false)
 
 pub returns-then-any_number_above : goal.returns-then-any_number_above

@@ -1,15 +1,10 @@
--- Eight octets hold every number; else the number fits if nothing of it is left behind f octets.
-use Rattle.std.proofs.Common.{◌≡◌, arith, rules, sym}
-use Rattle.octets.proofs.Turns.{divide_turn, fits_if_none, eight_fit}
+-- Eight octets hold every number; else the number fits if nothing of it is left behind the bits of f octets.
+use Rattle.std.proofs.Common.{arith, ◌∙◌, sym, le-leb}
+use Rattle.octets.proofs.Turns.{octet-bits, fits_if_none, eight_fit}
 use Rattle.octets.proofs.does_fit.Goals as goal
 
 pub returns-then-f-ge8 : goal.returns-then-f-ge8
-returns-then-f-ge8 c = sym (eight_fit c.args.f c.args.v (omega arith) (omega arith))
+returns-then-f-ge8 c = le-leb 8 c.args.f c.if-f-ge8.true ∙ sym (eight_fit c.args.f c.args.v (omega arith) (omega arith))
 
-pub loop-i-preserved : goal.loop-i-preserved
-loop-i-preserved c = (search rules, rw c.loop-i.invariant.1 (divide_turn c.args.v c.loop-i.i))
-
-pub returns : goal.returns
-returns c =
-    let e : c.loop-i.i ≡ c.args.f = omega arith in
-    rw (c.loop-i.invariant.1, e) (fits_if_none c.args.f c.args.v)
+pub returns-else-f-ge8 : goal.returns-else-f-ge8
+returns-else-f-ge8 c = rw (octet-bits c.args.f) (fits_if_none c.args.f c.args.v)

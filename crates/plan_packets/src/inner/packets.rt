@@ -9,11 +9,11 @@ ghost use Rattle.holding.proofs.Counting.{lengths};
 ghost use Rattle.segment_store.specs.Coalesce.{maximal_runs};
 ghost use Rattle.planning.specs.Tests.{same_identity, is_outside, is_more};
 ghost use Rattle.planning.specs.Check.{room_for};
+ghost use Rattle.plan_packets.specs.Requests.{ahead};
 
-use crate::inner::requests::{
-    adds_up, any_outside, any_unwanted, lying_in, metadata_times, put_requests,
-};
+use crate::inner::requests::{Requests, all_missing, is_metadata, is_outside, read};
 use coalescing::inner::coalesce_counted;
+use lists::inner::pairs::put_pair;
 use nak::{Edition, Identity};
 use nak_parser::parse;
 
@@ -29,19 +29,11 @@ pub fn is_unread(packet: &[u8], edition: Edition) -> bool
 fn same_identity(c: Identity, d: Identity) -> bool
     ensures { result ≡ same_identity c d }
 {
-    if c.entity_length != d.entity_length {
-        return false;
-    }
-    if c.number_length != d.number_length {
-        return false;
-    }
-    if c.source != d.source {
-        return false;
-    }
-    if c.number != d.number {
-        return false;
-    }
-    c.destination == d.destination
+    c.entity_length == d.entity_length
+        && c.number_length == d.number_length
+        && c.source == d.source
+        && c.number == d.number
+        && c.destination == d.destination
 }
 
 // 2: it carries another identity.
@@ -49,8 +41,7 @@ pub fn is_other(packet: &[u8], edition: Edition, identity: Identity) -> bool
     ensures { result ≡ not (same_identity (parsed_of edition packet.now).identity identity) }
 {
     let parsed = parse(packet, edition);
-    let own = parsed.identity;
-    !same_identity(own, identity)
+    !same_identity(parsed.identity, identity)
 }
 
 // 3: a request other than (0, 0) does not lie within its scope.
@@ -58,25 +49,38 @@ pub fn is_beyond(packet: &[u8], edition: Edition) -> bool
     ensures { result ≡ some (is_outside (range (parsed_of edition packet.now).scope_start (parsed_of edition packet.now).scope_end))
         (requests_given edition packet.now) }
 {
-    let parsed = parse(packet, edition);
-    let q = lying_in(parsed);
-    any_outside(
-        packet,
-        q.from,
-        q.f,
-        q.count,
-        parsed.scope_start,
-        parsed.scope_end,
-    )
+    let (parsed, mut requests) = read(packet, edition);
+    requests.any(|(s, e)| is_outside(parsed.scope_start, parsed.scope_end, s, e))
 }
 
 // 4: its requests have so many octets, counted as often as they are asked for.
 pub fn has_octets(packet: &[u8], edition: Edition, octets: u64) -> bool
     ensures { result ≡ eqb (lengths (requests_given edition packet.now)) octets }
 {
-    let parsed = parse(packet, edition);
-    let q = lying_in(parsed);
-    adds_up(packet, q.from, q.f, q.count, octets)
+    let (_, requests) = read(packet, edition);
+    let mut left = octets;
+    for (s, e) in requests {
+        let Some(l) = left.checked_sub(e.saturating_sub(s)) else {
+            return false;
+        };
+        left = l;
+    }
+    left == 0
+}
+
+// The requests ahead are written from pair m on; answers how many pairs the lent list then has. The list is the C interface's, flat.
+fn put_requests(requests: Requests<'_>, scratch: &mut [u64], m: usize) -> usize
+    requires { 2 * (m + length (ahead requests)) ≤ length scratch.old }
+    ensures value { result ≡ m + length (ahead requests.entry) }
+    ensures pairs_after { counted scratch.new result ≡ counted scratch.old m ++ ahead requests.entry }
+    ensures scratch_unchanged { drop (2 * result) scratch.new ≡ drop (2 * result) scratch.old }
+{
+    let mut n = m;
+    for (s, e) in requests {
+        put_pair(scratch, n, s, e);
+        n += 1;
+    }
+    n
 }
 
 // Its requests join the first m pairs of a lent list, which then holds the maximal runs of all; answers how many.
@@ -86,10 +90,9 @@ pub fn gather(packet: &[u8], edition: Edition, scratch: &mut [u64], m: usize) ->
     ensures upper_bound { result ≤ m + room_for packet.now }
     ensures scratch_unchanged { drop (2 * (m + room_for packet.now)) scratch.new ≡ drop (2 * (m + room_for packet.now)) scratch.old }
 {
-    let parsed = parse(packet, edition);
-    let q = lying_in(parsed);
-    put_requests(packet, q.from, q.f, q.count, scratch, m);
-    coalesce_counted(scratch, m + q.count)
+    let (_, requests) = read(packet, edition);
+    let n = put_requests(requests, scratch, m);
+    coalesce_counted(scratch, n)
 }
 
 // 5: it asks for an offset that is not in the list.
@@ -97,9 +100,8 @@ pub fn is_unwanted(packet: &[u8], edition: Edition, list: &[u64], count: usize) 
     requires { (2 * count ≤ length list.now) × Coalesced (counted list.now count) }
     ensures { result ≡ is_more (counted list.now count) (requests_given edition packet.now) }
 {
-    let parsed = parse(packet, edition);
-    let q = lying_in(parsed);
-    any_unwanted(packet, q.from, q.f, q.count, list, count)
+    let (_, mut requests) = read(packet, edition);
+    requests.any(|(s, e)| !all_missing(list, count, s, e))
 }
 
 // 6: how often it asks for metadata.
@@ -107,7 +109,6 @@ pub fn metadata_in(packet: &[u8], edition: Edition) -> usize
     ensures value { result ≡ metadata_asked (requests_given edition packet.now) }
     ensures upper_bound { result ≤ length packet.now }
 {
-    let parsed = parse(packet, edition);
-    let q = lying_in(parsed);
-    metadata_times(packet, q.from, q.f, q.count)
+    let (_, requests) = read(packet, edition);
+    requests.filter(|(s, e)| is_metadata(*s, *e)).count()
 }

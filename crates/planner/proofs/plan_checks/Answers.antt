@@ -11,23 +11,25 @@ use Rattle.outcomes.specs.declared.Refusal.{Refusal}
 use Rattle.outcomes.proofs.FirstOf.{none_of}
 use Rattle.nak.specs.Writer.{is_bad_identity}
 use Rattle.reception.specs.Record.{record_checks, Passed}
+use Rattle.outcomes.specs.Answered.{nothing}
+use Rattle.outcomes.proofs.Answered.{handed_on}
 use Rattle.reception.proofs.Sound.{refused_record, behind_record}
 use Rattle.planning.specs.Plan.{plan, pdus}
 use Rattle.planning.specs.Check.{most_pdus, sum_of, proposal_checks}
 use native.Mathlib.Omega.{arith}
 use Rattle.planner.proofs.plan_checks.Goals as goal
 
-pub returns-in-Refused : goal.returns-in-Refused
-returns-in-Refused c =
-    let fault : verdict_case c.record_checks-found.result ≡ first_of (record_checks (c.args.rec) (c.args.list.now)) (accepted []) = c.record_checks-found.ensures in
-    let r : Refusal = c.in-Refused.r in
-    refused_record (c.args.list.now) (c.args.rec) r ((let a = c.args in proposal_checks a.identity ((let a = c.args in plan a.edition a.lengths.now a.buf.now)) a.given)) (accepted [])
-    (ap verdict_case (sym c.in-Refused.is) ∙ fault)
+pub returns-in_err-record_checks : goal.returns-in_err-record_checks
+returns-in_err-record_checks c =
+    let fault : verdict_case c.record_checks.result ≡ first_of (record_checks (c.args.rec) (c.args.list.now)) (accepted []) = c.record_checks.ensures in
+    let r : Refusal = c.in_err-record_checks.field-0.0 in
+    handed_on nothing c.from_residual.result r c.from_residual.ensures.1 ∙ refused_record (c.args.list.now) (c.args.rec) r ((let a = c.args in proposal_checks a.identity ((let a = c.args in plan a.edition a.lengths.now a.buf.now)) a.given)) (accepted [])
+    (ap verdict_case (sym c.in_err-record_checks.was) ∙ fault)
 
 pub returns-then-bad_identity : goal.returns-then-bad_identity
 returns-then-bad_identity c =
-    let fault : verdict_case c.record_checks-found.result ≡ first_of (record_checks (c.args.rec) (c.args.list.now)) (accepted []) = c.record_checks-found.ensures in
-    let passed : Passed (c.args.list.now) (c.args.rec) = none_of (record_checks (c.args.rec) (c.args.list.now)) (ap verdict_case (sym c.in_default.is) ∙ fault) in
+    let fault : verdict_case c.record_checks.result ≡ first_of (record_checks (c.args.rec) (c.args.list.now)) (accepted []) = c.record_checks.ensures in
+    let passed : Passed (c.args.list.now) (c.args.rec) = none_of (record_checks (c.args.rec) (c.args.list.now)) (ap verdict_case (sym c.in_ok-record_checks.was) ∙ fault) in
     let behind : first_of ((let a = c.args in proposal_checks a.identity ((let a = c.args in plan a.edition a.lengths.now a.buf.now)) a.given)) (accepted []) ≡ first_of
     (record_checks (c.args.rec) (c.args.list.now) ++ (let a = c.args in proposal_checks a.identity ((let a = c.args in plan a.edition a.lengths.now a.buf.now)) a.given))
     (accepted []) = behind_record (c.args.list.now) (c.args.rec) (passed) ((let a = c.args in proposal_checks a.identity ((let a = c.args in plan a.edition a.lengths.now a.buf.now)) a.given))
@@ -36,8 +38,8 @@ returns-then-bad_identity c =
 
 pub returns-then-lengths-gt-MOST_PDUS : goal.returns-then-lengths-gt-MOST_PDUS
 returns-then-lengths-gt-MOST_PDUS c =
-    let fault : verdict_case c.record_checks-found.result ≡ first_of (record_checks (c.args.rec) (c.args.list.now)) (accepted []) = c.record_checks-found.ensures in
-    let passed : Passed (c.args.list.now) (c.args.rec) = none_of (record_checks (c.args.rec) (c.args.list.now)) (ap verdict_case (sym c.in_default.is) ∙ fault) in
+    let fault : verdict_case c.record_checks.result ≡ first_of (record_checks (c.args.rec) (c.args.list.now)) (accepted []) = c.record_checks.ensures in
+    let passed : Passed (c.args.list.now) (c.args.rec) = none_of (record_checks (c.args.rec) (c.args.list.now)) (ap verdict_case (sym c.in_ok-record_checks.was) ∙ fault) in
     let behind : first_of ((let a = c.args in proposal_checks a.identity ((let a = c.args in plan a.edition a.lengths.now a.buf.now)) a.given)) (accepted []) ≡ first_of
     (record_checks (c.args.rec) (c.args.list.now) ++ (let a = c.args in proposal_checks a.identity ((let a = c.args in plan a.edition a.lengths.now a.buf.now)) a.given))
     (accepted []) = behind_record (c.args.list.now) (c.args.rec) (passed) ((let a = c.args in proposal_checks a.identity ((let a = c.args in plan a.edition a.lengths.now a.buf.now)) a.given))
@@ -47,8 +49,8 @@ returns-then-lengths-gt-MOST_PDUS c =
 
 pub returns-then-sum-buf : goal.returns-then-sum-buf
 returns-then-sum-buf c =
-    let fault : verdict_case c.record_checks-found.result ≡ first_of (record_checks (c.args.rec) (c.args.list.now)) (accepted []) = c.record_checks-found.ensures in
-    let passed : Passed (c.args.list.now) (c.args.rec) = none_of (record_checks (c.args.rec) (c.args.list.now)) (ap verdict_case (sym c.in_default.is) ∙ fault) in
+    let fault : verdict_case c.record_checks.result ≡ first_of (record_checks (c.args.rec) (c.args.list.now)) (accepted []) = c.record_checks.ensures in
+    let passed : Passed (c.args.list.now) (c.args.rec) = none_of (record_checks (c.args.rec) (c.args.list.now)) (ap verdict_case (sym c.in_ok-record_checks.was) ∙ fault) in
     let behind : first_of ((let a = c.args in proposal_checks a.identity ((let a = c.args in plan a.edition a.lengths.now a.buf.now)) a.given)) (accepted []) ≡ first_of
     (record_checks (c.args.rec) (c.args.list.now) ++ (let a = c.args in proposal_checks a.identity ((let a = c.args in plan a.edition a.lengths.now a.buf.now)) a.given))
     (accepted []) = behind_record (c.args.list.now) (c.args.rec) (passed) ((let a = c.args in proposal_checks a.identity ((let a = c.args in plan a.edition a.lengths.now a.buf.now)) a.given))
@@ -60,8 +62,8 @@ returns-then-sum-buf c =
 
 pub returns-then-given-needed : goal.returns-then-given-needed
 returns-then-given-needed c =
-    let fault : verdict_case c.record_checks-found.result ≡ first_of (record_checks (c.args.rec) (c.args.list.now)) (accepted []) = c.record_checks-found.ensures in
-    let passed : Passed (c.args.list.now) (c.args.rec) = none_of (record_checks (c.args.rec) (c.args.list.now)) (ap verdict_case (sym c.in_default.is) ∙ fault) in
+    let fault : verdict_case c.record_checks.result ≡ first_of (record_checks (c.args.rec) (c.args.list.now)) (accepted []) = c.record_checks.ensures in
+    let passed : Passed (c.args.list.now) (c.args.rec) = none_of (record_checks (c.args.rec) (c.args.list.now)) (ap verdict_case (sym c.in_ok-record_checks.was) ∙ fault) in
     let behind : first_of ((let a = c.args in proposal_checks a.identity ((let a = c.args in plan a.edition a.lengths.now a.buf.now)) a.given)) (accepted []) ≡ first_of
     (record_checks (c.args.rec) (c.args.list.now) ++ (let a = c.args in proposal_checks a.identity ((let a = c.args in plan a.edition a.lengths.now a.buf.now)) a.given))
     (accepted []) = behind_record (c.args.list.now) (c.args.rec) (passed) ((let a = c.args in proposal_checks a.identity ((let a = c.args in plan a.edition a.lengths.now a.buf.now)) a.given))
@@ -75,8 +77,8 @@ returns-then-given-needed c =
 
 pub returns : goal.returns
 returns c =
-    let fault : verdict_case c.record_checks-found.result ≡ first_of (record_checks (c.args.rec) (c.args.list.now)) (accepted []) = c.record_checks-found.ensures in
-    let passed : Passed (c.args.list.now) (c.args.rec) = none_of (record_checks (c.args.rec) (c.args.list.now)) (ap verdict_case (sym c.in_default.is) ∙ fault) in
+    let fault : verdict_case c.record_checks.result ≡ first_of (record_checks (c.args.rec) (c.args.list.now)) (accepted []) = c.record_checks.ensures in
+    let passed : Passed (c.args.list.now) (c.args.rec) = none_of (record_checks (c.args.rec) (c.args.list.now)) (ap verdict_case (sym c.in_ok-record_checks.was) ∙ fault) in
     let behind : first_of ((let a = c.args in proposal_checks a.identity ((let a = c.args in plan a.edition a.lengths.now a.buf.now)) a.given)) (accepted []) ≡ first_of
     (record_checks (c.args.rec) (c.args.list.now) ++ (let a = c.args in proposal_checks a.identity ((let a = c.args in plan a.edition a.lengths.now a.buf.now)) a.given))
     (accepted []) = behind_record (c.args.list.now) (c.args.rec) (passed) ((let a = c.args in proposal_checks a.identity ((let a = c.args in plan a.edition a.lengths.now a.buf.now)) a.given))

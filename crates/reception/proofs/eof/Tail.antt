@@ -1,5 +1,6 @@
 -- What an accepted EOF does to a coalesced list that ends at progress or before: offsets from progress up to the size become missing and
 -- nothing else changes; the list stays coalesced, ends at the size or before, and grows by at most one range.
+use Rattle.std.specs.Prelude.{Some}
 use mathlib.Core.Path.{◌≡◌, refl, sym, ap, ◌∙◌}
 use mathlib.Core.Bool.{Bool, true, false}
 use mathlib.Core.List.{List}
@@ -13,7 +14,6 @@ use Rattle.ranges.proofs.Insert.{join-above, join_covers, join-length, join-none
 use borrow.Author.Tests.{le-ltb}
 use Rattle.ranges.specs.Store.{counted, capacity}
 use Rattle.ranges.specs.Inner.Cut.{cut_answer, cut_list}
-use Rattle.ranges.specs.declared.inner.cut.Remains.TheVariants.{Left}
 use Rattle.ranges.proofs.Flat.{length-counted}
 use Rattle.ranges.proofs.Stored.{stored_same}
 use Rattle.reception.specs.Record.{is_waiting}
@@ -44,8 +44,8 @@ tail_still true p rs w = sym (waiting_of p rs (w refl))
 tail_still false p rs w = join-none p p rs (omega arith)
 
 pub tail_none : (m : Bool) (p z : ℕ) (xs : List ℕ) (n : ℕ) → 2 * n ≤ length xs → p ≡ z → (m ≡ true → is_waiting p (counted xs n) ≡ true)
-    → (Left n ≡ cut_answer (capacity xs) (eof_ranges m p z (counted xs n))) × (xs ≡ cut_list (capacity xs) (eof_ranges m p z (counted xs n)) n xs)
+    → (Some n ≡ cut_answer (capacity xs) (eof_ranges m p z (counted xs n))) × (xs ≡ cut_list (capacity xs) (eof_ranges m p z (counted xs n)) n xs)
 tail_none m p z xs n h e w =
     let c = length-counted xs n h in
     let q : eof_ranges m p z (counted xs n) ≡ counted xs n = ap (λ (y : ℕ). eof_ranges m p y (counted xs n)) (sym e) ∙ tail_still m p (counted xs n) w in
-    rw (q, le-ltb (capacity xs) (length (counted xs n)) (omega arith)) (ap Left (sym c), sym (stored_same xs n h))
+    rw (q, le-ltb (capacity xs) (length (counted xs n)) (omega arith)) (ap Some (sym c), sym (stored_same xs n h))

@@ -1,11 +1,14 @@
 -- What `remove_coalesced` answers and leaves at each of its ends.
+use Rattle.std.specs.Prelude.{Some, None, ◌⊎◌}
+use Rattle.std.proofs.Common.{inl, inr}
+use Rattle.ranges.proofs.Test.{and_none}
 use mathlib.Core.Path.{◌≡◌, sym, ap, ◌∙◌}
 use mathlib.Core.Bool.{true, false}
 use mathlib.Core.List.{List, [], ◌∷◌}
 use Prim.Native.Nat.{ℕ, ◌+◌, ◌*◌, ◌≤◌, ◌<◌}
 use native.Mathlib.Omega.{arith}
 use lib.ListN.{length, get_or, get_or-eq_default}
-use lib.Dec.{leb-zero}
+use lib.Dec.{leb, leb-zero}
 use borrow.Author.Tests.{lt-ltb, le-ltb, le-leb, lt-leb, ltb-true, eq-eqb, ne_eqb}
 use Rattle.ranges.specs.Range.{range, Coalesced, some, inside, shares}
 use Rattle.ranges.specs.Store.{counted, capacity, stored}
@@ -16,7 +19,6 @@ use Rattle.outcomes.specs.declared.Refusal.TheVariants as refusal
 use Rattle.ranges.specs.Inner.Cut.{past, first, behind, gone_of, Took, cut_answer, cut_list}
 use Rattle.ranges.specs.declared.inner.cut.Part.{Part}
 use Rattle.ranges.specs.declared.inner.cut.Part.TheVariants as part
-use Rattle.ranges.specs.declared.inner.cut.Remains.TheVariants.{Full, Left}
 use Rattle.ranges.proofs.Flat.{at, get_or-counted, length-counted}
 use Rattle.ranges.proofs.Stored.{stored_same}
 use Rattle.ranges.proofs.Without.{without-none, place_at}
@@ -50,13 +52,13 @@ module _ (xs : List ℕ) (n a b i : ℕ) (h : 2 * n ≤ length xs) (lt : a < b) 
       ltb-true _ _ p
 
   -- sharing no offset is none, and nothing leaves
-  abbrev None : Type 0
-  None = (accepted (0 ∷ 0 ∷ n ∷ []) ≡ remove_from (capacity xs) (counted xs n) a b) × (xs ≡ stored (without a b (counted xs n)) n xs)
+  abbrev Nothing : Type 0
+  Nothing = (accepted (0 ∷ 0 ∷ n ∷ []) ≡ remove_from (capacity xs) (counted xs n) a b) × (xs ≡ stored (without a b (counted xs n)) n xs)
 
-  not-stored : some (inside a b) (counted xs n) ≡ false → some (shares a b) (counted xs n) ≡ false → None
+  not-stored : some (inside a b) (counted xs n) ≡ false → some (shares a b) (counted xs n) ≡ false → Nothing
   not-stored u v = (rw (u, v, length-counted xs n h), sym (rw (without-none a b lt 0 (counted xs n) s v) (stored_same xs n h)))
 
-  pub past_all : i ≡ n → None
+  pub past_all : i ≡ n → Nothing
   past_all k =
       let l = length-counted xs n h in
       let d : get_or (counted xs n) (first a (counted xs n)) (range 0 0) ≡ range 0 0 = rw (← e) (get_or-eq_default (counted xs n) (range 0 0) {n = i} (omega arith)) in
@@ -64,17 +66,22 @@ module _ (xs : List ℕ) (n a b i : ℕ) (h : 2 * n ≤ length xs) (lt : a < b) 
       (found_inside a b lt 0 (counted xs n) s ∙ ap (inside a b) d ∙ rw (leb-zero a, lt-leb b 0 (omega arith)))
       (found_shares a b lt 0 (counted xs n) s ∙ ap (shares a b) d ∙ rw (le-ltb a 0 (omega arith), lt-ltb 0 b (omega arith)))
 
-  pub before_it : i < n → b ≤ get_or xs (2 * i) 0 → None
+  pub before_it : i < n → b ≤ get_or xs (2 * i) 0 → Nothing
   before_it k u =
       not-stored
       (here-inside k ∙ rw (lt-leb (get_or xs (2 * i) 0) a (omega arith)))
       (here-shares k ∙ rw (le-ltb (get_or xs (2 * i) 0) b u))
 
   -- sharing an offset but inside none is 5
-  pub boundary : i < n → get_or xs (2 * i) 0 < b → inside a b (at xs i) ≡ false → refusing (refusal.InvalidSegmentBoundary a b) ≡ remove_from (capacity xs) (counted xs n) a b
+  outside : (a < get_or xs (2 * i) 0) ⊎ (get_or xs (2 * i + 1) 0 < b) → inside a b (at xs i) ≡ false
+  outside (inl u) = rw (lt-leb (get_or xs (2 * i) 0) a u)
+  outside (inr u) = rw (lt-leb b (get_or xs (2 * i + 1) 0) u, and_none (leb (get_or xs (2 * i) 0) a))
+
+  pub boundary : i < n → get_or xs (2 * i) 0 < b → (a < get_or xs (2 * i) 0) ⊎ (get_or xs (2 * i + 1) 0 < b)
+      → refusing (refusal.InvalidSegmentBoundary a b) ≡ remove_from (capacity xs) (counted xs n) a b
   boundary k u v =
       let w : some (shares a b) (counted xs n) ≡ true = here-shares k ∙ rw (lt-ltb (get_or xs (2 * i) 0) b u, lt-ltb a (get_or xs (2 * i + 1) 0) (ends k)) in
-      rw (here-inside k ∙ v, w)
+      rw (here-inside k ∙ outside v, w)
 
   -- inside, where the ranges that share an offset are just the one
   pub behind_it : i < n → get_or xs (2 * i) 0 < b → b ≤ get_or xs (2 * i + 1) 0 → i + 1 ≡ behind i b (counted xs n)
@@ -94,7 +101,7 @@ module _ (xs : List ℕ) (n a b i : ℕ) (h : 2 * n ≤ length xs) (lt : a < b) 
       sym (one-holder a b lt i (counted xs n) s (omega arith, rw g u, rw g v))
 
   pub inside-room : i < n → get_or xs (2 * i) 0 ≤ a → b ≤ get_or xs (2 * i + 1) 0 → (p : Part) (m : ℕ) (l : List ℕ)
-      → Left m ≡ cut_answer (capacity xs) (without a b (counted xs n)) → p ≡ gone_of a b (get_or xs (2 * i) 0) (get_or xs (2 * i + 1) 0)
+      → Some m ≡ cut_answer (capacity xs) (without a b (counted xs n)) → p ≡ gone_of a b (get_or xs (2 * i) 0) (get_or xs (2 * i + 1) 0)
       → l ≡ cut_list (capacity xs) (without a b (counted xs n)) n xs
       → (accepted (part_number p ∷ i ∷ m ∷ []) ≡ remove_from (capacity xs) (counted xs n) a b) × (l ≡ stored (without a b (counted xs n)) n xs)
   inside-room k u v p m l f q g =
@@ -103,7 +110,7 @@ module _ (xs : List ℕ) (n a b i : ℕ) (h : 2 * n ≤ length xs) (lt : a < b) 
       (rw (inside-it k u v, t.0, t.1, index k u v, get_or-counted xs n i k h, w), g ∙ rw t.0)
 
   pub inside_full : i < n → get_or xs (2 * i) 0 ≤ a → b ≤ get_or xs (2 * i + 1) 0 → (l : List ℕ)
-      → Full ≡ cut_answer (capacity xs) (without a b (counted xs n)) → l ≡ cut_list (capacity xs) (without a b (counted xs n)) n xs
+      → None ≡ cut_answer (capacity xs) (without a b (counted xs n)) → l ≡ cut_list (capacity xs) (without a b (counted xs n)) n xs
       → (refusing refusal.StoreFull ≡ remove_from (capacity xs) (counted xs n) a b) × (l ≡ xs)
   inside_full k u v l f g =
       let t = full_told (capacity xs) (without a b (counted xs n)) f in

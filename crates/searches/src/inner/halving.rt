@@ -4,7 +4,7 @@ ghost use Rattle.ranges.specs.Range.{Coalesced};
 ghost use Rattle.ranges.specs.Store.{counted};
 ghost use Rattle.ranges.specs.Inner.Cut.{first, behind};
 
-use lists::inner::pairs::{end_at, start_at};
+use lists::inner::pairs::counted;
 
 // The place of the first range that ends above a, or their number.
 pub fn first_past(list: &[u64], n: usize, a: u64) -> usize
@@ -13,17 +13,7 @@ pub fn first_past(list: &[u64], n: usize, a: u64) -> usize
     ensures value { result ≡ first a (counted list.now n) }
     ensures upper_bound { result ≤ n }
 {
-    let mut low = 0;
-    let mut high = n;
-    while low < high {
-        let m = low + (high - low) / 2;
-        if a < end_at(list, m) {
-            high = m;
-        } else {
-            low = m + 1;
-        }
-    }
-    low
+    counted(list, n).partition_point(|&[_, end]| end <= a)
 }
 
 // The place, from i on, of the first range that starts above e, or their number.
@@ -33,15 +23,5 @@ pub fn first_above(list: &[u64], n: usize, i: usize, e: u64) -> usize
     ensures value { result ≡ behind i (suc e) (counted list.now n) }
     ensures lower_bound { (i ≤ result) × (result ≤ n) }
 {
-    let mut low = i;
-    let mut high = n;
-    while low < high {
-        let m = low + (high - low) / 2;
-        if e < start_at(list, m) {
-            high = m;
-        } else {
-            low = m + 1;
-        }
-    }
-    low
+    i + counted(list, n)[i..].partition_point(|&[start, _]| start <= e)
 }

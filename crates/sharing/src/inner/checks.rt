@@ -9,7 +9,7 @@ ghost use Rattle.pooling.specs.Share.{base, total};
 ghost use Rattle.sharing.specs.Inner.{is_bad_other, other_checks};
 
 use crate::inner::settings::{bad_settings, bad_share};
-use outcomes::{Refusal, Verdict};
+use outcomes::Refusal;
 use pooling::Pool;
 use reception::Reception;
 use record_checks::inner::wrong_rest;
@@ -19,12 +19,8 @@ use searches::bad_store;
 fn bad_record(rec: Reception, list: &[u64]) -> bool
     ensures { result ≡ is_bad_record list.now rec }
 {
-    let width = rec.width;
-    let top = width.limit();
-    if bad_store(list, rec.count, top) {
-        return true;
-    }
-    if top < rec.progress {
+    let top = rec.width.limit();
+    if bad_store(list, rec.count, top) || top < rec.progress {
         return true;
     }
     wrong_rest(rec, list)
@@ -50,34 +46,25 @@ fn any_other(pool: Pool, list: &[u64], i: usize) -> bool
     requires pool_in_bounds { (2 * total pool ≤ length list.now) × (length list.now ≤ most_numbers) }
     ensures { result ≡ any_below (is_bad_other pool list.now i) pool.used }
 {
-    let used = pool.used;
-    let mut at: usize = 0;
-    let mut k: usize = 0;
-    while k < used {
+    let mut at = 0;
+    for k in 0..pool.used {
         if bad_other(pool, list, i, k, at) {
             return true;
         }
         at += pool.records[k].count;
-        k += 1;
     }
     false
 }
 
 // 23, and 10 but for the record of transfer i.
-pub fn pool_checks(pool: Pool, list: &[u64], i: usize) -> Verdict
+pub fn pool_checks(pool: Pool, list: &[u64], i: usize) -> Result<(), Refusal>
     ensures { verdict_case result ≡ first_of (other_checks pool list.now i) (accepted []) }
 {
-    if bad_settings(pool, list.len() / 2) {
-        return Verdict::Refused(Refusal::BadPool);
+    if bad_settings(pool, list.len() / 2) || pool.used <= i {
+        return Err(Refusal::BadPool);
     }
-    if pool.used <= i {
-        return Verdict::Refused(Refusal::BadPool);
+    if bad_share(pool, list) || any_other(pool, list, i) {
+        return Err(Refusal::BadStore);
     }
-    if bad_share(pool, list) {
-        return Verdict::Refused(Refusal::BadStore);
-    }
-    if any_other(pool, list, i) {
-        return Verdict::Refused(Refusal::BadStore);
-    }
-    Verdict::Passed
+    Ok(())
 }

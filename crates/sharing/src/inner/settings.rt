@@ -1,4 +1,5 @@
-// Inner: the numbers of a pool. Each function asks for what its callers have checked.
+// Inner: the numbers of a pool. Each function asks for what its callers have checked. The loops but one go by place, since each step of
+// theirs reads two of the pool's arrays.
 ghost use Rattle.std.specs.Prelude.{◌≡◌, ◌||◌, ◌<◌, ◌≤◌, ltb};
 ghost use Rattle.ranges.specs.Store.{most_pairs};
 ghost use Rattle.pooling.specs.Pool.{most_transfers, count_at, floor_at, sum, any_below, is_floor_above, is_bad_settings, claim_at, claimed, is_no_room};
@@ -16,19 +17,13 @@ fn bad_floors(pool: Pool, slots: usize) -> bool
     requires { pool.used ≤ most_transfers }
     ensures { result ≡ (any_below (is_floor_above pool) pool.used || ltb slots (sum (floor_at pool) pool.used)) }
 {
-    let used = pool.used;
-    let mut sum: usize = 0;
-    let mut k: usize = 0;
-    while k < used {
+    let mut sum = 0;
+    for k in 0..pool.used {
         let floor = pool.floors[k];
-        if pool.limits[k] < floor {
-            return true;
-        }
-        if slots - sum < floor {
+        if pool.limits[k] < floor || slots - sum < floor {
             return true;
         }
         sum += floor;
-        k += 1;
     }
     false
 }
@@ -37,10 +32,7 @@ fn bad_floors(pool: Pool, slots: usize) -> bool
 pub fn bad_settings(pool: Pool, slots: usize) -> bool
     ensures { result ≡ is_bad_settings pool slots }
 {
-    if MOST_TRANSFERS < pool.used {
-        return true;
-    }
-    bad_floors(pool, slots)
+    MOST_TRANSFERS < pool.used || bad_floors(pool, slots)
 }
 
 // The larger of held and floor.
@@ -48,12 +40,7 @@ fn claim(pool: Pool, k: usize) -> usize
     requires { k < most_transfers }
     ensures { result ≡ claim_at pool k }
 {
-    let held = pool.records[k].count;
-    let floor = pool.floors[k];
-    if held < floor {
-        return floor;
-    }
-    held
+    pool.records[k].count.max(pool.floors[k])
 }
 
 // Whether a count is above its limit, or the claims sum to more than the slots. The sum stops before it passes them.
@@ -61,19 +48,13 @@ fn bad_claims(pool: Pool, slots: usize) -> bool
     requires { pool.used ≤ most_transfers }
     ensures { result ≡ (any_below (is_past_limit pool) pool.used || ltb slots (claimed pool)) }
 {
-    let used = pool.used;
-    let mut sum: usize = 0;
-    let mut k: usize = 0;
-    while k < used {
-        if pool.limits[k] < pool.records[k].count {
-            return true;
-        }
+    let mut sum = 0;
+    for k in 0..pool.used {
         let more = claim(pool, k);
-        if slots - sum < more {
+        if pool.limits[k] < pool.records[k].count || slots - sum < more {
             return true;
         }
         sum += more;
-        k += 1;
     }
     false
 }
@@ -83,11 +64,8 @@ pub fn bad_share(pool: Pool, list: &[u64]) -> bool
     requires { pool.used ≤ most_transfers }
     ensures { result ≡ is_bad_share pool list.now }
 {
-    if list.len() % 2 == 1 {
-        return true;
-    }
     let slots = list.len() / 2;
-    if MOST_SLOTS < slots {
+    if list.len() % 2 == 1 || MOST_SLOTS < slots {
         return true;
     }
     bad_claims(pool, slots)
@@ -98,11 +76,9 @@ pub fn held_before(pool: Pool, n: usize) -> usize
     requires { (n ≤ most_transfers) × (base pool n ≤ most_pairs) }
     ensures { result ≡ base pool n }
 {
-    let mut sum: usize = 0;
-    let mut k: usize = 0;
-    while k < n {
-        sum += pool.records[k].count;
-        k += 1;
+    let mut sum = 0;
+    for rec in &pool.records[..n] {
+        sum += rec.count;
     }
     sum
 }
@@ -112,12 +88,9 @@ fn claims(pool: Pool) -> usize
     requires { (pool.used ≤ most_transfers) × (claimed pool ≤ most_pairs) }
     ensures { result ≡ claimed pool }
 {
-    let used = pool.used;
-    let mut sum: usize = 0;
-    let mut k: usize = 0;
-    while k < used {
+    let mut sum = 0;
+    for k in 0..pool.used {
         sum += claim(pool, k);
-        k += 1;
     }
     sum
 }
@@ -129,11 +102,5 @@ pub fn no_room(pool: Pool, slots: usize, i: usize) -> bool
     ensures { result ≡ is_no_room pool slots i }
 {
     let held = pool.records[i].count;
-    if pool.limits[i] < held + 1 {
-        return true;
-    }
-    if held < pool.floors[i] {
-        return false;
-    }
-    claims(pool) == slots
+    pool.limits[i] < held + 1 || (pool.floors[i] <= held && claims(pool) == slots)
 }

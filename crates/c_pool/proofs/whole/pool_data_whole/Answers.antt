@@ -1,117 +1,45 @@
--- `whole::pool_data_whole` meets its contract.
-use mathlib.Core.Path.{◌≡◌, sym, ap, ◌∙◌}
-use mathlib.Core.Bool.{true, false}
+-- `whole::pool_data_whole` meets its contract: an accepted event is one of a transfer in use.
 use Prim.Native.Nat.{◌<◌}
 use native.Mathlib.Omega.{arith}
-use lib.Dec.{eqb}
-use borrow.Author.Tests.{eq-eqb, ne_eqb}
+use mathlib.Core.Path.{sym, ◌∙◌}
+use Rattle.reception.specs.Data.{received_values}
+use Rattle.pooling.specs.Pool.{most_transfers}
 use Rattle.reception.specs.History.{Data}
-use Rattle.pooling.specs.declared.Pool.{Pool}
-use Rattle.pooling.specs.Pool.{most_transfers, record_at}
-use Rattle.pooling.specs.Events.{event_outcome, event_pool}
-use Rattle.answers.specs.Answer.{answer_of}
-use Rattle.answers.specs.declared.PusmarkeAnswer.{PusmarkeAnswer}
-use Rattle.c_pool.specs.declared.PusmarkePool.{PusmarkePool}
-use Rattle.c_pool.specs.Input.{record_of, pool_in}
-use Rattle.c_pool.specs.Output.{with_record, record_after}
-use Rattle.c_pool.proofs.InUse.{in_use, taken, left}
+use Rattle.c_pool.specs.Input.{pool_in}
+use Rattle.c_pool.proofs.InUse.{in_use_by}
 use Rattle.c_pool.proofs.whole.pool_data_whole.Goals as goal
-
-pub returns-then-answer-ne0 : goal.returns-then-answer-ne0
-returns-then-answer-ne0 c =
-    let answer : c.of_data-answer.result ≡ answer_of ((event_outcome (pool_in (c.args.pool)) (c.args.list.now) (c.args.i) ((Data c.args.offset c.args.length)))) = let said = rw c.pool_in-own.ensures
-    at c.pool_data_core-done.ensures in
-    c.of_data-answer.ensures ∙ ap answer_of said.0 in
-    let new : Pool → PusmarkePool = λ q. with_record (c.args.pool) (c.args.i) (record_after ((Data c.args.offset c.args.length))
-    ((event_outcome (pool_in (c.args.pool)) (c.args.list.now) (c.args.i) ((Data c.args.offset c.args.length)))) (record_at q (c.args.i)) (record_of (c.args.pool) (c.args.i))) in
-    let no : eqb ((event_outcome (pool_in (c.args.pool)) (c.args.list.now) (c.args.i) ((Data c.args.offset c.args.length)))).number 0 ≡ false = ne_eqb
-    ((event_outcome (pool_in (c.args.pool)) (c.args.list.now) (c.args.i) ((Data c.args.offset c.args.length)))).number 0
-    (λ (z : ((event_outcome (pool_in (c.args.pool)) (c.args.list.now) (c.args.i) ((Data c.args.offset c.args.length)))).number ≡ 0). c.if-answer-ne0.true
-    (ap (λ (p : PusmarkeAnswer). p.refusal) (answer) ∙ z)) in
-    let said = rw c.pool_in-own.ensures at c.pool_data_core-done.ensures in (
-      answer,
-      (
-        left ((event_outcome (pool_in (c.args.pool)) (c.args.list.now) (c.args.i) ((Data c.args.offset c.args.length))))
-            (new (event_pool (pool_in (c.args.pool)) (c.args.list.now) (c.args.i) ((Data c.args.offset c.args.length)))) (c.args.pool) (no),
-        said.1.1,
-      ),
-    )
-
-pub offset_bounds-after-i : goal.offset_bounds-after-i
-offset_bounds-after-i c =
-    let answer : c.of_data-answer.result ≡ answer_of ((event_outcome (pool_in (c.args.pool)) (c.args.list.now) (c.args.i) ((Data c.args.offset c.args.length)))) = let said = rw c.pool_in-own.ensures
-    at c.pool_data_core-done.ensures in
-    c.of_data-answer.ensures ∙ ap answer_of said.0 in
-    let yes : eqb ((event_outcome (pool_in (c.args.pool)) (c.args.list.now) (c.args.i) ((Data c.args.offset c.args.length)))).number 0 ≡ true = eq-eqb
-    ((event_outcome (pool_in (c.args.pool)) (c.args.list.now) (c.args.i) ((Data c.args.offset c.args.length)))).number 0 (sym (ap (λ (p : PusmarkeAnswer). p.refusal) (answer)) ∙
-    c.if-answer-ne0.false) in
-    let inside : c.args.i < most_transfers = in_use (pool_in (c.args.pool)) (c.args.list.now) (c.args.i) ((Data c.args.offset c.args.length)) (yes) in
-    omega (arith, inside)
-
-pub bounds-after-i : goal.bounds-after-i
-bounds-after-i c =
-    let answer : c.of_data-answer.result ≡ answer_of ((event_outcome (pool_in (c.args.pool)) (c.args.list.now) (c.args.i) ((Data c.args.offset c.args.length)))) = let said = rw c.pool_in-own.ensures
-    at c.pool_data_core-done.ensures in
-    c.of_data-answer.ensures ∙ ap answer_of said.0 in
-    let yes : eqb ((event_outcome (pool_in (c.args.pool)) (c.args.list.now) (c.args.i) ((Data c.args.offset c.args.length)))).number 0 ≡ true = eq-eqb
-    ((event_outcome (pool_in (c.args.pool)) (c.args.list.now) (c.args.i) ((Data c.args.offset c.args.length)))).number 0 (sym (ap (λ (p : PusmarkeAnswer). p.refusal) (answer)) ∙
-    c.if-answer-ne0.false) in
-    let inside : c.args.i < most_transfers = in_use (pool_in (c.args.pool)) (c.args.list.now) (c.args.i) ((Data c.args.offset c.args.length)) (yes) in
-    omega (arith, inside)
 
 pub offset_bounds-pool-i : goal.offset_bounds-pool-i
 offset_bounds-pool-i c =
-    let answer : c.of_data-answer.result ≡ answer_of ((event_outcome (pool_in (c.args.pool)) (c.args.list.now) (c.args.i) ((Data c.args.offset c.args.length)))) = let said = rw c.pool_in-own.ensures
-    at c.pool_data_core-done.ensures in
-    c.of_data-answer.ensures ∙ ap answer_of said.0 in
-    let yes : eqb ((event_outcome (pool_in (c.args.pool)) (c.args.list.now) (c.args.i) ((Data c.args.offset c.args.length)))).number 0 ≡ true = eq-eqb
-    ((event_outcome (pool_in (c.args.pool)) (c.args.list.now) (c.args.i) ((Data c.args.offset c.args.length)))).number 0 (sym (ap (λ (p : PusmarkeAnswer). p.refusal) (answer)) ∙
-    c.if-answer-ne0.false) in
-    let inside : c.args.i < most_transfers = in_use (pool_in (c.args.pool)) (c.args.list.now) (c.args.i) ((Data c.args.offset c.args.length)) (yes) in
+    let a = c.args in
+    let said = rw c.from-own.ensures at c.pool_data_core-done.ensures in
+    let inside : a.i < most_transfers = in_use_by received_values c.pool_data_core-done.result.answer (pool_in a.pool) a.list.now a.i (Data a.offset a.length) said.0 (sym c.is_err.ensures.value ∙ c.if-is_err.false) in
     omega (arith, inside)
 
 pub bounds-pool-i : goal.bounds-pool-i
 bounds-pool-i c =
-    let answer : c.of_data-answer.result ≡ answer_of ((event_outcome (pool_in (c.args.pool)) (c.args.list.now) (c.args.i) ((Data c.args.offset c.args.length)))) = let said = rw c.pool_in-own.ensures
-    at c.pool_data_core-done.ensures in
-    c.of_data-answer.ensures ∙ ap answer_of said.0 in
-    let yes : eqb ((event_outcome (pool_in (c.args.pool)) (c.args.list.now) (c.args.i) ((Data c.args.offset c.args.length)))).number 0 ≡ true = eq-eqb
-    ((event_outcome (pool_in (c.args.pool)) (c.args.list.now) (c.args.i) ((Data c.args.offset c.args.length)))).number 0 (sym (ap (λ (p : PusmarkeAnswer). p.refusal) (answer)) ∙
-    c.if-answer-ne0.false) in
-    let inside : c.args.i < most_transfers = in_use (pool_in (c.args.pool)) (c.args.list.now) (c.args.i) ((Data c.args.offset c.args.length)) (yes) in
+    let a = c.args in
+    let said = rw c.from-own.ensures at c.pool_data_core-done.ensures in
+    let inside : a.i < most_transfers = in_use_by received_values c.pool_data_core-done.result.answer (pool_in a.pool) a.list.now a.i (Data a.offset a.length) said.0 (sym c.is_err.ensures.value ∙ c.if-is_err.false) in
+    omega (arith, inside)
+
+pub offset_bounds-done-i : goal.offset_bounds-done-i
+offset_bounds-done-i c =
+    let a = c.args in
+    let said = rw c.from-own.ensures at c.pool_data_core-done.ensures in
+    let inside : a.i < most_transfers = in_use_by received_values c.pool_data_core-done.result.answer (pool_in a.pool) a.list.now a.i (Data a.offset a.length) said.0 (sym c.is_err.ensures.value ∙ c.if-is_err.false) in
+    omega (arith, inside)
+
+pub bounds-done-i : goal.bounds-done-i
+bounds-done-i c =
+    let a = c.args in
+    let said = rw c.from-own.ensures at c.pool_data_core-done.ensures in
+    let inside : a.i < most_transfers = in_use_by received_values c.pool_data_core-done.result.answer (pool_in a.pool) a.list.now a.i (Data a.offset a.length) said.0 (sym c.is_err.ensures.value ∙ c.if-is_err.false) in
     omega (arith, inside)
 
 pub with_record-requires : goal.with_record-requires
 with_record-requires c =
-    let answer : c.of_data-answer.result ≡ answer_of ((event_outcome (pool_in (c.args.pool)) (c.args.list.now) (c.args.i) ((Data c.args.offset c.args.length)))) = let said = rw c.pool_in-own.ensures
-    at c.pool_data_core-done.ensures in
-    c.of_data-answer.ensures ∙ ap answer_of said.0 in
-    let yes : eqb ((event_outcome (pool_in (c.args.pool)) (c.args.list.now) (c.args.i) ((Data c.args.offset c.args.length)))).number 0 ≡ true = eq-eqb
-    ((event_outcome (pool_in (c.args.pool)) (c.args.list.now) (c.args.i) ((Data c.args.offset c.args.length)))).number 0 (sym (ap (λ (p : PusmarkeAnswer). p.refusal) (answer)) ∙
-    c.if-answer-ne0.false) in
-    let inside : c.args.i < most_transfers = in_use (pool_in (c.args.pool)) (c.args.list.now) (c.args.i) ((Data c.args.offset c.args.length)) (yes) in
+    let a = c.args in
+    let said = rw c.from-own.ensures at c.pool_data_core-done.ensures in
+    let inside : a.i < most_transfers = in_use_by received_values c.pool_data_core-done.result.answer (pool_in a.pool) a.list.now a.i (Data a.offset a.length) said.0 (sym c.is_err.ensures.value ∙ c.if-is_err.false) in
     omega (arith, inside)
-
-pub returns : goal.returns
-returns c =
-    let answer : c.of_data-answer.result ≡ answer_of ((event_outcome (pool_in (c.args.pool)) (c.args.list.now) (c.args.i) ((Data c.args.offset c.args.length)))) = let said = rw c.pool_in-own.ensures
-    at c.pool_data_core-done.ensures in
-    c.of_data-answer.ensures ∙ ap answer_of said.0 in
-    let new : Pool → PusmarkePool = λ q. with_record (c.args.pool) (c.args.i) (record_after ((Data c.args.offset c.args.length))
-    ((event_outcome (pool_in (c.args.pool)) (c.args.list.now) (c.args.i) ((Data c.args.offset c.args.length)))) (record_at q (c.args.i)) (record_of (c.args.pool) (c.args.i))) in
-    let left-pool : c.pool_data_core-done.result.pool ≡ event_pool (pool_in (c.args.pool)) (c.args.list.now) (c.args.i)
-    ((Data c.args.offset c.args.length)) = let said = rw c.pool_in-own.ensures at c.pool_data_core-done.ensures in
-    said.1.0 in
-    let yes : eqb ((event_outcome (pool_in (c.args.pool)) (c.args.list.now) (c.args.i) ((Data c.args.offset c.args.length)))).number 0 ≡ true = eq-eqb
-    ((event_outcome (pool_in (c.args.pool)) (c.args.list.now) (c.args.i) ((Data c.args.offset c.args.length)))).number 0 (sym (ap (λ (p : PusmarkeAnswer). p.refusal) (answer)) ∙
-    c.if-answer-ne0.false) in
-    let said = rw c.pool_in-own.ensures at c.pool_data_core-done.ensures in (
-      answer,
-      (
-        c.with_record.ensures
-            ∙ ap (new) (left-pool)
-            ∙ taken ((event_outcome (pool_in (c.args.pool)) (c.args.list.now) (c.args.i) ((Data c.args.offset c.args.length))))
-            (new (event_pool (pool_in (c.args.pool)) (c.args.list.now) (c.args.i) ((Data c.args.offset c.args.length)))) (c.args.pool) (yes),
-        said.1.1,
-      ),
-    )

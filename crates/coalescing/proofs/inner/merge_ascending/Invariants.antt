@@ -1,10 +1,6 @@
 -- What `merge_ascending` keeps: the pairs before k are merged in the first m.
-use Rattle.std.proofs.Common.{◌-◌}
 use Rattle.coalescing.proofs.MergeLoop.{MergeLoop}
 use Rattle.coalescing.proofs.inner.merge_ascending.Given as goal
 
 abbrev pub invariant-loop-k : goal.invariant-loop-k
 invariant-loop-k l = MergeLoop l.initial.list l.list l.n l.m l.k
-
-abbrev pub decreases-loop-k : goal.decreases-loop-k
-decreases-loop-k l = l.n - l.k

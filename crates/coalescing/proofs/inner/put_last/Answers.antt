@@ -1,7 +1,7 @@
 -- (s, e) is dropped, joins the last range, or goes behind it.
 use Rattle.std.proofs.Common.{◌≡◌, ℕ, suc, ◌-◌, ◌<◌, ◌∙◌, arith}
 use Rattle.ranges.specs.Store.{end_at}
-use Rattle.coalescing.proofs.JoinLast.{put-none, put-within, put_longer, put-behind}
+use Rattle.coalescing.proofs.JoinLast.{put-none, put-joined, put-behind}
 use Rattle.coalescing.proofs.inner.put_last.Goals as goal
 use Rattle.coalescing.proofs.inner.put_last.Goals.{then-m-gt0+else-s-h, else-m-gt0}
 
@@ -11,23 +11,13 @@ returns-then-e-s c =
     let w = put-none a.list.now a.m a.s a.e (omega arith) c.if-e-s.true in
     record { value = w.0; list_after = w.1 }
 
-pub returns-then-h-e : goal.returns-then-h-e
-returns-then-h-e c =
+pub returns-then-s-h : goal.returns-then-s-h
+returns-then-s-h c =
     let a = c.args in
     let q = c.requires in
     let w =
-    put_longer a.list.now a.m (a.m - 1) a.s a.e (omega arith) (omega arith) c.if-e-s.false q.coalesced q.low
-    (omega (arith, c.end_at-h.ensures)) (omega (arith, c.end_at-h.ensures)) in
-    record { value = w.0; list_after = c.put_end.ensures ∙ w.1 }
-
-pub returns-else-h-e : goal.returns-else-h-e
-returns-else-h-e c =
-    let a = c.args in
-    let q = c.requires in
-    let w =
-    put-within a.list.now a.m (a.m - 1) a.s a.e (omega arith) (omega arith) c.if-e-s.false q.coalesced q.low
-    (omega (arith, c.end_at-h.ensures)) (omega (arith, c.end_at-h.ensures)) in
-    record { value = w.0; list_after = w.1 }
+    put-joined a.list.now a.m (a.m - 1) a.s a.e (omega arith) (omega arith) c.if-e-s.false q.coalesced q.low (omega (arith, c.end_at-h.ensures)) in
+    record { value = w.0; list_after = c.put_end.ensures ∙ rw (c.max.ensures, c.end_at-h.ensures) w.1 }
 
 pub returns : goal.returns
 returns c =

@@ -1,11 +1,15 @@
 -- A refusal of the record's own checks is the answer, whatever is behind them.
-use Rattle.std.proofs.Common.{[]}
+use Rattle.std.proofs.Common.{◌∙◌, []}
 use Rattle.outcomes.specs.Outcome.{accepted}
+use Rattle.outcomes.specs.Answered.{nothing}
+use Rattle.outcomes.proofs.Answered.{handed_on}
 use Rattle.reception.specs.Data.{segment_checks}
 use Rattle.reception.proofs.Sound.{refused_record}
 use Rattle.event_checks.proofs.data.data_checks.Goals as goal
 
-pub returns-in-Refused : goal.returns-in-Refused
-returns-in-Refused c =
+pub returns-in_err-record_checks : goal.returns-in_err-record_checks
+returns-in_err-record_checks c =
     let a = c.args in
-    refused_record a.list.now a.rec c.in-Refused.r (segment_checks a.rec a.offset a.length) (accepted []) c.in-Refused.ensures
+    let r = c.in_err-record_checks.field-0.0 in
+    handed_on nothing c.from_residual.result r c.from_residual.ensures.1
+    ∙ refused_record a.list.now a.rec r (segment_checks a.rec a.offset a.length) (accepted []) c.in_err-record_checks.ensures

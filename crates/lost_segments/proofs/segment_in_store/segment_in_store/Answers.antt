@@ -8,6 +8,6 @@ use Rattle.lost_segments.proofs.segment_in_store.segment_in_store.Goals as goal
 pub any_holds-requires : goal.any_holds-requires
 any_holds-requires c =
     let a = c.args in
-    let n = checks-passed (store_checks a.list.now a.st) c.store_checks-found.result c.store_checks-found.ensures c.in_default.is in
+    let n = checks-passed (store_checks a.list.now a.st) c.store_checks.result c.store_checks.ensures c.in_ok-store_checks.was in
     let room = (good _ _ _ n.0).room in
     omega arith

@@ -9,8 +9,8 @@ overflow_mul-needed-2 c =
     let g = good _ _ _ (sym c.bad_store.ensures ∙ c.if-bad_store.false) in
     let r = g.room in
     let k = g.small in
-    let few : c.field_length-f.result ≤ 8 = omega (arith, field_length_le c.args.flag) in
-    let m = few-octets c.args.st.count c.field_length-f.result (omega arith) few in
+    let few : c.field_length.result ≤ 8 = omega (arith, field_length_le c.args.flag) in
+    let m = few-octets c.args.st.count c.field_length.result (omega arith) few in
     omega arith
 
 pub any_too_large-requires : goal.any_too_large-requires

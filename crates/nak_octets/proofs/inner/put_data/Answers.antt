@@ -5,20 +5,19 @@ use Rattle.nak_octets.proofs.Puts.{data_puts}
 use Rattle.nak_octets.proofs.inner.put_data.Goals as goal
 
 pub put_metadata-place-requires : goal.put_metadata-place-requires
-put_metadata-place-requires c = omega (arith, data_room c.args.f c.args.metadata c.args.count)
+put_metadata-place-requires c = omega (arith, data_room c.args.f c.args.asked)
 
 pub put_all-requires : goal.put_all-requires
-put_all-requires c = omega (arith, data_room c.args.f c.args.metadata c.args.count)
+put_all-requires c = rw c.pairs.ensures (omega (arith, data_room c.args.f c.args.asked), omega arith)
 
 pub returns : goal.returns
 returns c =
     let a = c.args in
-    data_puts a.buf.now a.requests.now a.at a.f a.start a.end a.metadata a.first a.count
-    c.put.ensures
+    data_puts a.buf.now a.at a.f a.asked
+    (rw c.from.ensures at c.put.ensures)
     c.put-2.ensures
     c.put-3.ensures
     c.put_metadata-place.ensures.1
     c.put_metadata-place.ensures.0
-    c.put_all.ensures
-    c.requires.1
-    (omega (arith, data_room a.f a.metadata a.count))
+    (rw c.pairs.ensures at c.put_all.ensures)
+    (omega (arith, data_room a.f a.asked))

@@ -1,5 +1,5 @@
 -- `nak_octets::inner::put_header`: the octets written side by side are the header.
-use Rattle.std.proofs.Common.{arith, ◌∙◌}
+use Rattle.std.proofs.Common.{arith, refl}
 use Rattle.nak_octets.proofs.Puts.{header_puts}
 use Rattle.nak_octets.proofs.inner.put_header.Goals as goal
 
@@ -8,8 +8,8 @@ returns c =
     let a = c.args in
     header_puts a.buf.now a.at a.form a.i a.q a.len
     c.octet_0.ensures
-    c.wide.ensures
-    (c.wide-2.ensures ∙ omega arith)
+    refl
+    (omega arith)
     c.put.ensures
     c.put-2.ensures
     c.put-3.ensures

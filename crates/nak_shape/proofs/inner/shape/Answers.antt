@@ -61,7 +61,7 @@ returns-then-wrong_length c =
     let h = c.args.header in
     let v = c.args.edition in
     let e = c.requires.1 in
-    let fixed = fixed-is v p c.wide.ensures c.wide-2.ensures c.wrong_fixed.ensures c.if-wrong_fixed.false in
+    let fixed = fixed-is v p c.from.ensures c.from-2.ensures c.wrong_fixed.ensures c.if-wrong_fixed.false in
     let l = c.wrong_length.ensures ∙ is-length p (h-is v p h e) (len_is v p h e) (t-is v p h e c.trailer_length-t.ensures) in
     sym (length-first v p c.requires.0 fixed (sym l ∙ c.if-wrong_length.true))
 
@@ -71,7 +71,7 @@ returns-then-wrong_trailer c =
     let h = c.args.header in
     let v = c.args.edition in
     let e = c.requires.1 in
-    let fixed = fixed-is v p c.wide.ensures c.wide-2.ensures c.wrong_fixed.ensures c.if-wrong_fixed.false in
+    let fixed = fixed-is v p c.from.ensures c.from-2.ensures c.wrong_fixed.ensures c.if-wrong_fixed.false in
     let l = c.wrong_length.ensures ∙ is-length p (h-is v p h e) (len_is v p h e) (t-is v p h e c.trailer_length-t.ensures) in
     sym (trailer-first v p (accepted []) c.requires.0 fixed (sym l ∙ c.if-wrong_length.false) (sym c.wrong_trailer.ensures ∙ c.if-wrong_trailer.true))
 
@@ -81,7 +81,7 @@ returns-then-packet-h-ne-NAK_CODE c =
     let h = c.args.header in
     let v = c.args.edition in
     let e = c.requires.1 in
-    let fixed = fixed-is v p c.wide.ensures c.wide-2.ensures c.wrong_fixed.ensures c.if-wrong_fixed.false in
+    let fixed = fixed-is v p c.from.ensures c.from-2.ensures c.wrong_fixed.ensures c.if-wrong_fixed.false in
     let l = c.wrong_length.ensures ∙ is-length p (h-is v p h e) (len_is v p h e) (t-is v p h e c.trailer_length-t.ensures) in
     let other : (octet_at p (header_length_in p) ≡ nak_code → ⊥) = λ z. c.if-packet-h-ne-NAK_CODE.true (ap (octet_at p) (h-is v p h e) ∙ z) in
     sym (directive_first v p (accepted []) c.requires.0 fixed (sym l ∙ c.if-wrong_length.false) (sym c.wrong_trailer.ensures ∙ c.if-wrong_trailer.false) other)
@@ -92,7 +92,7 @@ returns-then-wrong_data c =
     let h = c.args.header in
     let v = c.args.edition in
     let e = c.requires.1 in
-    let fixed = fixed-is v p c.wide.ensures c.wide-2.ensures c.wrong_fixed.ensures c.if-wrong_fixed.false in
+    let fixed = fixed-is v p c.from.ensures c.from-2.ensures c.wrong_fixed.ensures c.if-wrong_fixed.false in
     let t = t-is v p h e c.trailer_length-t.ensures in
     let l = c.wrong_length.ensures ∙ is-length p (h-is v p h e) (len_is v p h e) t in
     let code : octet_at p (header_length_in p) ≡ nak_code = ap (octet_at p) (sym (h-is v p h e)) ∙ c.if-packet-h-ne-NAK_CODE.false in
@@ -105,7 +105,7 @@ returns c =
     let h = c.args.header in
     let v = c.args.edition in
     let e = c.requires.1 in
-    let fixed = fixed-is v p c.wide.ensures c.wide-2.ensures c.wrong_fixed.ensures c.if-wrong_fixed.false in
+    let fixed = fixed-is v p c.from.ensures c.from-2.ensures c.wrong_fixed.ensures c.if-wrong_fixed.false in
     let t = t-is v p h e c.trailer_length-t.ensures in
     let l = c.wrong_length.ensures ∙ is-length p (h-is v p h e) (len_is v p h e) t in
     let code : octet_at p (header_length_in p) ≡ nak_code = ap (octet_at p) (sym (h-is v p h e)) ∙ c.if-packet-h-ne-NAK_CODE.false in

@@ -16,4 +16,4 @@ returns-then-crc c =
 
 pub returns-else-crc : goal.returns-else-crc
 unfolding wrong_trailer
-returns-else-crc c = let k : packet_crc c.args.packet.now ≡ false = sym c.requires ∙ c.if-crc.false in rw k
+returns-else-crc c = let k : packet_crc c.args.packet.now ≡ false = sym c.requires ∙ c.if-crc.false in rw k c.if-crc.false

@@ -1,18 +1,12 @@
-use Rattle.std.proofs.Common.{◌+◌, arith, rules}
-use Rattle.octets.proofs.Turns.{get_turn, room, room-more}
+use Rattle.std.proofs.Common.{◌+◌, ◌-◌, ◌<◌, arith, take, drop}
+use Rattle.std.proofs.lemmas.Grind.{common_steps}
+use Rattle.octets.proofs.Turns.{get_turn, room}
 use Rattle.octets.proofs.inner.get.Goals as goal
 
-pub overflow_mul-v : goal.overflow_mul-v
-overflow_mul-v c = omega (arith, room-more c.loop-i.i c.loop-i.v 0 (omega arith) c.loop-i.invariant.2 (omega arith))
-
-pub overflow_add-v : goal.overflow_add-v
-overflow_add-v c =
-    let o = c.wide.ensures in
-    let k = c.type_inv.buf (c.args.at + c.loop-i.i) in
-    omega (arith, room-more c.loop-i.i c.loop-i.v c.wide.result (omega arith) c.loop-i.invariant.2 (omega arith))
-
-pub loop-i-preserved : goal.loop-i-preserved
-loop-i-preserved c =
-    let l = c.loop-i in
-    let k = c.type_inv.buf (c.args.at + l.i) in
-    (search rules, rw (l.invariant.1, c.wide.ensures) (get_turn c.args.buf.now c.args.at l.i (omega arith)), room l.i l.v c.wide.result l.invariant.2 (omega arith))
+pub loop-octet-preserved : goal.loop-octet-preserved
+loop-octet-preserved c =
+    let l = c.loop-octet in
+    let a = c.args in
+    let os = take (a.at + a.f - a.at) (drop a.at a.buf.now) in
+    let k : c.from.result < 256 = grind (arith, common_steps, c.type_inv.buf (a.at + l.octet-index)) in
+    (rw (l.invariant.0, c.from.ensures) (get_turn os l.octet-index c.loop-octet-test.true), room l.octet-index l.v c.from.result l.invariant.1 k)

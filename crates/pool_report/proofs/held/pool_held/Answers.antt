@@ -1,102 +1,31 @@
 -- `pool_held` meets its contract: 23, 10 of the other transfers, then the call over the transfer's part.
-use native.Mathlib.Omega.{arith}
-use Prim.Native.Nat.{◌+◌, ◌*◌, ◌-◌, ◌≤◌}
-use mathlib.Core.Path.{◌≡◌}
-use lib.ListN.{length}
-use Rattle.outcomes.specs.declared.Refusal.{Refusal}
-use Rattle.pooling.specs.Pool.{record_at, count_at}
-use Rattle.pooling.specs.Share.{base, own_part}
-use Rattle.pool.proofs.Numbers.{Numbers, numbers, ready-others}
-use mathlib.Core.List.{[], ◌∷◌}
+use mathlib.Core.Path.{◌∙◌}
 use mathlib.Core.Bool.{cond}
-use Rattle.outcomes.specs.Outcome.{accepted}
+use mathlib.Core.List.{List, [], ◌∷◌}
+use Prim.Native.Nat.{ℕ}
+use Rattle.outcomes.specs.Outcome.{Outcome, accepted}
+use Rattle.outcomes.specs.Answered.{yes_or_no}
+use Rattle.outcomes.proofs.Answered.{handed_on}
 use Rattle.holding.specs.Held.{span_checks, is_held}
+use Rattle.pooling.specs.declared.Pool.{Pool}
+use Rattle.pooling.specs.Pool.{record_at}
+use Rattle.pooling.specs.Share.{own_part}
 use Rattle.pool_report.proofs.Asked.{refused-asked, passed-asked}
 use Rattle.pool_report.proofs.held.pool_held.Goals as goal
 
-pub returns-in-Refused : goal.returns-in-Refused
-returns-in-Refused c =
-    let r : Refusal = c.in-Refused.r in
-    refused-asked (c.args.pool) (c.args.list.now) (c.args.i) ((span_checks c.args.a c.args.b))
-    ((cond (is_held ((record_at (c.args.pool) (c.args.i))) ((own_part (c.args.pool) (c.args.list.now) (c.args.i))) c.args.a c.args.b) (accepted (1 ∷ [])) (accepted (0 ∷ []))))
-    c.pool_checks-found.result c.pool_checks-found.ensures r c.in-Refused.is
+-- what is said behind the checks
+abbrev said : Pool → List ℕ → ℕ → ℕ → ℕ → Outcome
+said p xs i a b = cond (is_held (record_at p i) (own_part p xs i) a b) (accepted (1 ∷ [])) (accepted (0 ∷ []))
 
-pub offset_bounds-pool-i : goal.offset_bounds-pool-i
-offset_bounds-pool-i c =
-    let facts : Numbers (c.args.pool) (c.args.list.now) (c.args.i) = numbers (c.args.pool) (c.args.list.now) (c.args.i)
-    (ready-others (c.args.pool) (c.args.list.now) (c.args.i) c.pool_checks-found.result c.pool_checks-found.ensures c.in_default.is) in
-    omega (arith, (facts).few, (facts).known)
-
-pub bounds-pool-i : goal.bounds-pool-i
-bounds-pool-i c =
-    let facts : Numbers (c.args.pool) (c.args.list.now) (c.args.i) = numbers (c.args.pool) (c.args.list.now) (c.args.i)
-    (ready-others (c.args.pool) (c.args.list.now) (c.args.i) c.pool_checks-found.result c.pool_checks-found.ensures c.in_default.is) in
-    omega (arith, (facts).few, (facts).known)
-
-pub held_before-at-requires : goal.held_before-at-requires
-held_before-at-requires c =
-    let facts : Numbers (c.args.pool) (c.args.list.now) (c.args.i) = numbers (c.args.pool) (c.args.list.now) (c.args.i)
-    (ready-others (c.args.pool) (c.args.list.now) (c.args.i) c.pool_checks-found.result c.pool_checks-found.ensures c.in_default.is) in
-    let n = facts in
-    (omega (arith, n.few, n.known), omega (arith, n.ends, n.all))
-
-pub overflow_add-end : goal.overflow_add-end
-overflow_add-end c =
-    let facts : Numbers (c.args.pool) (c.args.list.now) (c.args.i) = numbers (c.args.pool) (c.args.list.now) (c.args.i)
-    (ready-others (c.args.pool) (c.args.list.now) (c.args.i) c.pool_checks-found.result c.pool_checks-found.ensures c.in_default.is) in
-    let at : c.held_before-at.result ≡ base (c.args.pool) (c.args.i) = c.held_before-at.ensures in
-    let ends : 2 * (c.held_before-at.result + count_at (c.args.pool) (c.args.i)) ≤ length (c.args.list.now) = let n = facts in omega (arith, at, n.ends, n.slots) in
-    let most : c.held_before-at.result + count_at (c.args.pool) (c.args.i) ≤ 4096 = let n = facts in omega (arith, at, n.ends, n.all) in
-    omega (arith, ends, most)
-
-pub overflow_mul-at : goal.overflow_mul-at
-overflow_mul-at c =
-    let facts : Numbers (c.args.pool) (c.args.list.now) (c.args.i) = numbers (c.args.pool) (c.args.list.now) (c.args.i)
-    (ready-others (c.args.pool) (c.args.list.now) (c.args.i) c.pool_checks-found.result c.pool_checks-found.ensures c.in_default.is) in
-    let at : c.held_before-at.result ≡ base (c.args.pool) (c.args.i) = c.held_before-at.ensures in
-    let ends : 2 * (c.held_before-at.result + count_at (c.args.pool) (c.args.i)) ≤ length (c.args.list.now) = let n = facts in omega (arith, at, n.ends, n.slots) in
-    let most : c.held_before-at.result + count_at (c.args.pool) (c.args.i) ≤ 4096 = let n = facts in omega (arith, at, n.ends, n.all) in
-    omega (arith, ends, most)
-
-pub overflow_mul-end : goal.overflow_mul-end
-overflow_mul-end c =
-    let facts : Numbers (c.args.pool) (c.args.list.now) (c.args.i) = numbers (c.args.pool) (c.args.list.now) (c.args.i)
-    (ready-others (c.args.pool) (c.args.list.now) (c.args.i) c.pool_checks-found.result c.pool_checks-found.ensures c.in_default.is) in
-    let at : c.held_before-at.result ≡ base (c.args.pool) (c.args.i) = c.held_before-at.ensures in
-    let ends : 2 * (c.held_before-at.result + count_at (c.args.pool) (c.args.i)) ≤ length (c.args.list.now) = let n = facts in omega (arith, at, n.ends, n.slots) in
-    let most : c.held_before-at.result + count_at (c.args.pool) (c.args.i) ≤ 4096 = let n = facts in omega (arith, at, n.ends, n.all) in
-    omega (arith, ends, most)
-
-pub offset_bounds-list-at : goal.offset_bounds-list-at
-offset_bounds-list-at c =
-    let facts : Numbers (c.args.pool) (c.args.list.now) (c.args.i) = numbers (c.args.pool) (c.args.list.now) (c.args.i)
-    (ready-others (c.args.pool) (c.args.list.now) (c.args.i) c.pool_checks-found.result c.pool_checks-found.ensures c.in_default.is) in
-    let at : c.held_before-at.result ≡ base (c.args.pool) (c.args.i) = c.held_before-at.ensures in
-    let ends : 2 * (c.held_before-at.result + count_at (c.args.pool) (c.args.i)) ≤ length (c.args.list.now) = let n = facts in omega (arith, at, n.ends, n.slots) in
-    let most : c.held_before-at.result + count_at (c.args.pool) (c.args.i) ≤ 4096 = let n = facts in omega (arith, at, n.ends, n.all) in
-    omega (arith, ends, most)
-
-pub slice_bounds-held-start : goal.slice_bounds-held-start
-slice_bounds-held-start c =
-    let facts : Numbers (c.args.pool) (c.args.list.now) (c.args.i) = numbers (c.args.pool) (c.args.list.now) (c.args.i)
-    (ready-others (c.args.pool) (c.args.list.now) (c.args.i) c.pool_checks-found.result c.pool_checks-found.ensures c.in_default.is) in
-    let at : c.held_before-at.result ≡ base (c.args.pool) (c.args.i) = c.held_before-at.ensures in
-    let ends : 2 * (c.held_before-at.result + count_at (c.args.pool) (c.args.i)) ≤ length (c.args.list.now) = let n = facts in omega (arith, at, n.ends, n.slots) in
-    let most : c.held_before-at.result + count_at (c.args.pool) (c.args.i) ≤ 4096 = let n = facts in omega (arith, at, n.ends, n.all) in
-    omega (arith, ends, most)
-
-pub slice_bounds-held-end : goal.slice_bounds-held-end
-slice_bounds-held-end c =
-    let facts : Numbers (c.args.pool) (c.args.list.now) (c.args.i) = numbers (c.args.pool) (c.args.list.now) (c.args.i)
-    (ready-others (c.args.pool) (c.args.list.now) (c.args.i) c.pool_checks-found.result c.pool_checks-found.ensures c.in_default.is) in
-    let at : c.held_before-at.result ≡ base (c.args.pool) (c.args.i) = c.held_before-at.ensures in
-    let ends : 2 * (c.held_before-at.result + count_at (c.args.pool) (c.args.i)) ≤ length (c.args.list.now) = let n = facts in omega (arith, at, n.ends, n.slots) in
-    let most : c.held_before-at.result + count_at (c.args.pool) (c.args.i) ≤ 4096 = let n = facts in omega (arith, at, n.ends, n.all) in
-    omega (arith, ends, most)
+pub returns-in_err-rec : goal.returns-in_err-rec
+returns-in_err-rec c =
+    let s = c.args in
+    let e = c.in_err-rec in
+    handed_on yes_or_no c.from_residual.result e.field-0.0 c.from_residual.ensures.1
+    ∙ refused-asked s.pool s.list.now s.i (span_checks s.a s.b) (said s.pool s.list.now s.i s.a s.b) e.field-0.0 e.ensures.checked
 
 pub returns : goal.returns
 returns c =
-    let at : c.held_before-at.result ≡ base (c.args.pool) (c.args.i) = c.held_before-at.ensures in
-    passed-asked (c.args.pool) (c.args.list.now) (c.args.i) ((span_checks c.args.a c.args.b))
-    ((cond (is_held ((record_at (c.args.pool) (c.args.i))) ((own_part (c.args.pool) (c.args.list.now) (c.args.i))) c.args.a c.args.b) (accepted (1 ∷ [])) (accepted (0 ∷ []))))
-    c.pool_checks-found.result c.pool_checks-found.ensures _ c.in_default.is (rw (at) at c.held.ensures)
+    let s = c.args in
+    let o = c.in_ok-rec.ensures in
+    passed-asked s.pool s.list.now s.i (span_checks s.a s.b) (said s.pool s.list.now s.i s.a s.b) _ o.checked (rw (o.lent.0, o.lent.1) at c.held.ensures)

@@ -1,14 +1,8 @@
--- `plan::pusmarke_check_plan` meets its contract: it says of C's numbers what the call that it wraps says of its own types.
+-- `plan::pusmarke_check_plan` says of C's numbers what the call that it wraps says of its own types.
 use mathlib.Core.Path.{ap, ◌∙◌}
 use Rattle.answers.specs.Answer.{answer_of}
 use Rattle.pusmarke_c.proofs.plan.pusmarke_check_plan.Goals as goal
 
-pub returns : goal.returns
-returns c =
-    let own = c.record_in-own.ensures in
-    let asking = c.identity_in-asking.ensures in
-    let edition = c.edition_in-edition.ensures in
-    let said = c.check_plan.ensures in record {
-      value = c.of_plan.ensures ∙ ap answer_of (rw (own, asking, edition) at said.result_value);
-      scratch_after = rw (own, asking) at said.scratch_after;
-    }
+pub returns-clause-value : goal.returns-clause-value
+returns-clause-value c =
+    c.from.ensures ∙ ap answer_of (rw (c.from-own.ensures, c.from-asking.ensures, c.edition_in-edition.ensures) at c.check_plan.ensures.result_value)

@@ -1,6 +1,7 @@
 -- The first range that ends above a decides.
 use Rattle.std.proofs.Common.{◌≡◌, ◌∙◌, sym, ap, not, length, ◌<◌, arith}
 use lib.Dec.{leb, ltb}
+use borrow.Author.Tests.{eq-eqb}
 use Rattle.ranges.specs.Range.{Range}
 use Rattle.ranges.specs.Store.{counted, start_at}
 use Rattle.ranges.specs.Inner.Cut.{first}
@@ -14,10 +15,10 @@ returns-then-i-count c =
     let rs = counted a.list.now a.count in
     let e : first a.a rs ≡ length rs =
     sym c.first_past-i.ensures.value ∙ c.if-i-count.true ∙ sym (length-counted a.list.now a.count c.requires.count_in_bounds) in
-    sym (ap not (none-past a.a a.b rs e))
+    eq-eqb _ _ c.if-i-count.true ∙ sym (ap not (none-past a.a a.b rs e))
 
-pub returns : goal.returns
-returns c =
+pub returns-else-i-count : goal.returns-else-i-count
+returns-else-i-count c =
     let a = c.args in
     let rs = counted a.list.now a.count in
     let f = c.first_past-i.ensures in

@@ -39,19 +39,17 @@ overflow_add-octets c =
     let o = c.loop-i in
     omega (
       arith,
-      on a.list.now a.count o.i o.octets _ _ c.requires.count_in_bounds c.loop-i-test.true o.invariant.1 c.start_at.ensures c.end_at.ensures,
+      on a.list.now a.count o.i o.octets _ _ c.requires.count_in_bounds c.loop-i-test.true o.invariant c.start_at.ensures c.end_at.ensures,
       most a.list.now a.count a.progress c.requires.coalesced,
     )
 
 pub loop-i-preserved : goal.loop-i-preserved
 loop-i-preserved c =
     let a = c.args in
-    let o = c.loop-i in (
-      omega arith,
-      omega (
-        arith,
-        on a.list.now a.count o.i o.octets _ _ c.requires.count_in_bounds c.loop-i-test.true o.invariant.1 c.start_at.ensures c.end_at.ensures,
-      ),
+    let o = c.loop-i in
+    omega (
+      arith,
+      on a.list.now a.count o.i o.octets _ _ c.requires.count_in_bounds c.loop-i-test.true o.invariant c.start_at.ensures c.end_at.ensures,
     )
 
 pub returns : goal.returns
@@ -60,5 +58,5 @@ returns c =
     let p = c.requires in
     let l = c.loop-i in
     let e : l.i ≡ a.count = omega arith in
-    let k = rw (e, drop-counted a.list.now a.count p.count_in_bounds) at l.invariant.1 in
+    let k = rw (e, drop-counted a.list.now a.count p.count_in_bounds) at l.invariant in
     omega (arith, k, lengths-below 0 a.progress (counted a.list.now a.count) p.coalesced.0 p.coalesced.1)

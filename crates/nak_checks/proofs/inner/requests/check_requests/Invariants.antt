@@ -1,5 +1,5 @@
 -- `nak_checks::inner::requests::check_requests`: the outcome of the requests ahead is that of all.
-use Rattle.std.proofs.Common.{◌≡◌, ◌*◌, ◌-◌, ◌≤◌, Bool, true, List, [], drop}
+use Rattle.std.proofs.Common.{◌≡◌, ◌*◌, Bool, true, List, [], drop}
 use Rattle.outcomes.specs.Outcome.{Outcome, accepted}
 use Rattle.outcomes.specs.Checks.{first_of}
 use Rattle.ranges.specs.Range.{Range}
@@ -11,8 +11,5 @@ use Rattle.nak_checks.proofs.inner.requests.check_requests.Given as goal
 abbrev said : Bool → List Range → Outcome
 said none rs = first_of (checks_from none rs) (accepted [])
 
-abbrev pub invariant-loop-i : goal.invariant-loop-i
-invariant-loop-i l = (l.i ≤ l.count) × (said l.none (pairs (drop (2 * l.i) l.requests)) ≡ said true (pairs l.requests))
-
-abbrev pub decreases-loop-i : goal.decreases-loop-i
-decreases-loop-i l = l.count - l.i
+abbrev pub invariant-loop-s : goal.invariant-loop-s
+invariant-loop-s l = said l.none (pairs (drop (2 * l.s-index) l.requests)) ≡ said true (pairs l.requests)

@@ -1,24 +1,19 @@
--- `is_unwanted` meets its contract: the requests lie where reading says.
-use mathlib.Core.Path.{ap, ◌∙◌}
+-- `is_unwanted` meets its contract: the requests ahead are those that reading gives.
+use mathlib.Core.Path.{◌∙◌}
+use borrow.Author.Rules.{rules}
+use borrow.Author.Tests.{tests}
+use Rattle.std.proofs.lemmas.Iterator.Search.{any_from_yields_List}
+use Rattle.std.proofs.lemmas.Iterator.Consumers.{YieldsList-from_first}
 use Rattle.ranges.specs.Store.{counted}
-use Rattle.nak_parsing.proofs.ParsedOf.{part-of}
-use Rattle.planning.specs.Tests.{is_more}
-use Rattle.plan_packets.proofs.Given.{lies}
+use Rattle.nak_parsing.specs.Step.{requests_given}
+use Rattle.plan_packets.specs.Requests.{ahead, as_range}
+use Rattle.plan_packets.proofs.Tests.{some_list}
+use Rattle.plan_packets.proofs.Wanted.{Lacks}
 use Rattle.plan_packets.proofs.inner.packets.is_unwanted.Goals as goal
-
-pub lying_in-q-requires : goal.lying_in-q-requires
-lying_in-q-requires c = let a = c.args in rw c.parse-parsed.ensures (part-of a.edition a.packet.now).ordered
-
-pub any_unwanted-requires : goal.any_unwanted-requires
-any_unwanted-requires c =
-    let a = c.args in
-    let w = lies a.edition a.packet.now in record {
-      f_bound = rw (c.lying_in-q.ensures, c.parse-parsed.ensures) ((w.high, w.room));
-      n_in_bounds = c.requires;
-    }
 
 pub returns : goal.returns
 returns c =
-    let a = c.args in
-    let w = lies a.edition a.packet.now in
-    (rw (c.lying_in-q.ensures, c.parse-parsed.ensures) at c.any_unwanted.ensures) ∙ ap (is_more (counted a.list.now a.count)) w.are
+    any_from_yields_List (Lacks (counted c.args.list.now c.args.count)) c.any.new.self _ _ c.any.ensures.ran
+    (YieldsList-from_first as_range ahead {s = c.read.result.1} _ c.read.ensures.requests)
+    (λ x b q k. search (rules, tests))
+    ∙ some_list (Lacks (counted c.args.list.now c.args.count)) (requests_given c.args.edition c.args.packet.now)

@@ -1,18 +1,22 @@
--- `first_too_often` meets its contract. The loop's invariant: the PDUs before PDU k ask for metadata so many times, not too often.
-use Prim.Native.Nat.{◌-◌, ◌≤◌}
+-- The PDUs before PDU k ask for metadata so many times, not too often.
+use Prim.Native.Nat.{◌≤◌}
 use mathlib.Core.Path.{◌≡◌}
-use lib.ListN.{length}
+use lib.ListN.{length, drop}
+use Rattle.std.specs.Iterator.Adapters.{enumerate_source, enumerate_count}
 use Rattle.nak.specs.Request.{metadata_asked}
-use Rattle.planning.specs.Plan.{plan, start_of, asked_before}
+use Rattle.planning.specs.Plan.{asked_before, start_of}
 use Rattle.planning.specs.Tests.{first_below, is_too_often}
+use Rattle.plan_passes.specs.Packets.{packets_in}
+use Rattle.plan_passes.specs.Pdus.{plan_of}
 use Rattle.plan_passes.proofs.inner.metadata.first_too_often.Given as goal
 
 abbrev pub invariant-loop-k : goal.invariant-loop-k
-invariant-loop-k l = (l.k ≤ length l.lengths)
-    × (l.at ≡ start_of l.lengths l.k)
-    × (first_below (is_too_often (plan l.edition l.lengths l.buf) l.w) l.k ≡ l.k)
-    × (l.times ≡ metadata_asked (asked_before (plan l.edition l.lengths l.buf) l.k))
-    × (l.times ≤ l.at)
-
-abbrev pub decreases-loop-k : goal.decreases-loop-k
-decreases-loop-k l = length l.lengths - l.k
+invariant-loop-k l =
+    let k = enumerate_count l.k-iterator in
+    let s = enumerate_source l.k-iterator in
+    let p = l.pdus in
+    (packets_in s.lengths.now s.octets.now ≡ drop k (packets_in p.lengths.now p.buf.now))
+    × (k ≤ length p.lengths.now)
+    × (first_below (is_too_often (plan_of p) l.w) k ≡ k)
+    × (l.times ≡ metadata_asked (asked_before (plan_of p) k))
+    × (l.times ≤ start_of p.lengths.now k)

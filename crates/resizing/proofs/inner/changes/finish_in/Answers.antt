@@ -8,14 +8,14 @@ use Rattle.pooling.proofs.Own.{held-room}
 use Rattle.resizing.proofs.Moved.{held-left, held-ends}
 use Rattle.resizing.proofs.inner.changes.finish_in.Goals as goal
 
-pub returns-in-Left-clause-list_after : goal.returns-in-Left-clause-list_after
-returns-in-Left-clause-list_after c =
+pub returns-in-Some-clause-list_after : goal.returns-in-Some-clause-list_after
+returns-in-Some-clause-list_after c =
     let a = c.args in
     let r = c.requires in
     let d = c.finish-left in
-    let n : ℕ = c.in-Left.n in
-    let held : List ℕ = part (2 * a.at) (2 * (a.at + a.m)) a.list.now in
-    let qs : List Range = eof_ranges a.missing a.p a.z (counted held a.m) in
-    let w = held-left a.list.now a.at a.m a.total qs r.m_bound.0 r.m_bound.1.0 d.new.list n (sym c.in-Left.is ∙ d.ensures.value) d.ensures.list_after in
-    (held-ends a.list.now a.at a.m a.total qs r.m_bound.0 r.m_bound.1.0 d.new.list c.close_up.new.list n (cond a.full a.m (suc a.m))
-    (held-room a.full a.m) w.0 w.1.0 w.1.1 c.close_up.ensures).1
+    let n : ℕ = c.in-Some.n in
+    let held : List ℕ = part (2 * a.place.at) (2 * (a.place.at + a.place.count)) a.list.now in
+    let qs : List Range = eof_ranges a.missing a.p a.z (counted held a.place.count) in
+    let w = held-left a.list.now a.place.at a.place.count a.place.total qs r.lies.0.0 r.lies.0.1.0 d.new.list n (sym c.in-Some.is ∙ d.ensures.value) d.ensures.list_after in
+    (held-ends a.list.now a.place.at a.place.count a.place.total qs r.lies.0.0 r.lies.0.1.0 d.new.list c.close_up.new.list n (cond a.place.full a.place.count (suc a.place.count))
+    (held-room a.place.full a.place.count) w.0 w.1.0 w.1.1 c.close_up.ensures).1

@@ -1,12 +1,12 @@
--- `last_end` meets its contract: the last of m + 1 pairs is pair m.
-use Rattle.std.proofs.Common.{arith, ℕ, suc, ◌≡◌, ◌-◌, sym, ap, ◌∙◌}
-use Rattle.ranges.specs.Range.{last_end}
+-- `last_end` meets its contract: the last pair's end is the last range's.
+use Rattle.std.proofs.Common.{arith}
 use Rattle.ranges.specs.Store.{counted}
-use Rattle.ranges.proofs.Last.{last-counted}
+use Rattle.ranges.proofs.Flat.{length-counted}
+use Rattle.searches.proofs.Scans.{last-pair}
 use Rattle.searches.proofs.inner.checks.last_end.Goals as goal
 
-pub returns : goal.returns
-returns c =
+pub returns-in-len1-up : goal.returns-in-len1-up
+returns-in-len1-up c =
     let a = c.args in
-    let e : a.count ≡ suc (a.count - 1) = omega arith in
-    c.end_at.ensures ∙ sym (ap (λ (m : ℕ). last_end (counted a.list.now m)) e ∙ last-counted a.list.now (a.count - 1) (omega arith))
+    let n = length-counted a.list.now a.count c.requires in
+    rw c.counted.ensures.value (last-pair (counted a.list.now a.count) (omega (arith, c.in-len1-up.len_at_least, c.counted.ensures.len)))

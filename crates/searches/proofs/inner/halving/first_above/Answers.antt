@@ -1,30 +1,23 @@
--- `first_above` meets its contract: the start in the middle says on which side the place lies.
-use Rattle.std.proofs.Common.{arith, suc, ◌+◌, ◌-◌, ◌/◌, ◌<◌, ◌≤◌}
-use Rattle.ranges.proofs.Halving.{behind-within, behind_le, behind_gt}
+-- `first_above` meets its contract: the starts ascend, and where those above e begin is the place.
+use Rattle.std.proofs.Common.{rules, arith, suc, ◌+◌, ℕ, Bool, List, leb, map, drop, ap, get_or}
+use Rattle.std.proofs.lemmas.List.{length-drop}
+use Rattle.std.proofs.lemmas.List.Sorted.{IsPartitionPoint-from_clause, IsPartitionedBy-leb}
+use Rattle.ranges.specs.Store.{counted}
+use Rattle.ranges.specs.Inner.Cut.{from}
+use Rattle.ranges.proofs.Flat.{length-counted}
+use Rattle.ranges.proofs.Without.{coalesced-drop}
+use Rattle.lists.specs.Pairs.{pair_of}
+use Rattle.searches.proofs.Scans.{parted, starts_ascend, not_leb, pairs-behind}
 use Rattle.searches.proofs.inner.halving.first_above.Goals as goal
 
-pub loop-low-init : goal.loop-low-init
-loop-low-init c =
+pub returns-clause-value : goal.returns-clause-value
+returns-clause-value c =
     let a = c.args in
-    let r = c.requires.i_le_n in
-    (omega arith, omega arith, behind-within a.list.now a.n r.1 a.i (suc a.e) r.0, omega arith)
-
-pub loop-low-preserved-then-e-start_at : goal.loop-low-preserved-then-e-start_at
-loop-low-preserved-then-e-start_at c =
-    let a = c.args in
-    let l = c.loop-low in
-    let m = l.low + (l.high - l.low) / 2 in
-    let w : m < a.n = omega arith in
-    let b : a.i ≤ m = omega arith in
-    let k = behind_le a.list.now a.n c.requires.i_le_n.1 a.i (suc a.e) m b w (omega arith) in
-    (l.invariant.0, l.invariant.1, k, omega arith)
-
-pub loop-low-preserved : goal.loop-low-preserved
-loop-low-preserved c =
-    let a = c.args in
-    let l = c.loop-low in
-    let m = l.low + (l.high - l.low) / 2 in
-    let w : m < a.n = omega arith in
-    let b : a.i ≤ m = omega arith in
-    let k = behind_gt a.list.now a.n c.requires.i_le_n.1 c.requires.coalesced a.i (suc a.e) m b w (omega arith) in
-    (omega arith, omega arith, l.invariant.2, l.invariant.3)
+    let rs = drop a.i (counted a.list.now a.n) in
+    let p : List ℕ → Bool = λ q. leb (get_or q 0 0) a.e in
+    let up = IsPartitionedBy-leb (λ q. get_or q 0 0) (map pair_of rs) a.e (starts_ascend 0 rs (coalesced-drop a.i 0 (counted a.list.now a.n) c.requires.coalesced)) in
+    let e = pairs-behind (counted a.list.now a.n) a.i c.counted.result.now c.counted.ensures.value in
+    let w = IsPartitionPoint-from_clause p _ _ (rw e at c.partition_point.ensures.partitioned) up (λ x r f k. search rules) in
+    let n = length-counted a.list.now a.n c.requires.i_le_n.1 in
+    let d = length-drop a.i (counted a.list.now a.n) in
+    ap (λ (k : ℕ). a.i + k) (parted p (from (suc a.e)) rs c.partition_point.result (λ r. not_leb r.start a.e) (omega (arith, c.partition_point.ensures.bound)) w)

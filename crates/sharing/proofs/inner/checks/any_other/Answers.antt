@@ -19,4 +19,4 @@ pub overflow_add-at : goal.overflow_add-at
 overflow_add-at c =
     let p : Pool = c.args.pool in
     let w : base p c.loop-k.k + count_at p c.loop-k.k ≤ total p = sum-within (count_at p) c.loop-k.k p.used c.loop-k-test.true in
-    omega (arith, w, c.loop-k.invariant.1.1.0, c.requires.pool_in_bounds.0, c.requires.pool_in_bounds.1)
+    omega (arith, w, c.loop-k.invariant.0, c.requires.pool_in_bounds.0, c.requires.pool_in_bounds.1)

@@ -1,6 +1,6 @@
 -- `bad_record` meets its contract: the parts of check 10 in order.
 use native.Mathlib.Omega.{arith}
-use Prim.Native.Nat.{ℕ, ◌≤◌, ◌<◌}
+use Prim.Native.Nat.{ℕ, ◌≤◌}
 use mathlib.Core.Path.{◌≡◌, sym, ap, ◌∙◌}
 use mathlib.Core.Bool.{Bool}
 use mathlib.Core.List.{List}
@@ -9,6 +9,7 @@ use Rattle.ranges.proofs.Good.{good}
 use Rattle.reception.specs.declared.Reception.{Reception}
 use Rattle.reception.proofs.Sound.{ten_store, ten_progress, ten_wait}
 use Rattle.sharing.proofs.inner.checks.bad_record.Goals as goal
+use Rattle.sharing.proofs.inner.checks.bad_record.Goals.{then-bad_store-via-then-bad_store, then-bad_store-via-else-bad_store+then-top-rec}
 
 -- the store as it was tested, at the limit that the call gave
 tested : (xs : List ℕ) (rec : Reception) (top : ℕ) (t s : Bool) → top ≡ limit_of rec.width → t ≡ is_bad_store xs rec.count top → t ≡ s
@@ -17,14 +18,14 @@ tested xs rec top t s l e f = ap (is_bad_store xs rec.count) (sym l) ∙ sym e �
 
 pub returns-then-bad_store : goal.returns-then-bad_store
 returns-then-bad_store c =
-    let a = c.args in
-    sym (ten_store a.list.now a.rec (tested a.list.now a.rec _ _ _ c.limit-top.ensures c.bad_store.ensures c.if-bad_store.true))
-
-pub returns-then-top-rec : goal.returns-then-top-rec
-returns-then-top-rec c =
-    let a = c.args in
-    let k : limit_of a.rec.width < a.rec.progress = omega (arith, c.if-top-rec.true, c.limit-top.ensures) in
-    sym (ten_progress a.list.now a.rec (tested a.list.now a.rec _ _ _ c.limit-top.ensures c.bad_store.ensures c.if-bad_store.false) k)
+    let xs = c.args.list.now in
+    let rec = c.args.rec in
+    elim c.then-bad_store.branch [
+      | then-bad_store-via-then-bad_store w ↦ sym (ten_store xs rec (tested xs rec _ _ _ c.limit-top.ensures c.bad_store.ensures w.if-bad_store.true))
+      | then-bad_store-via-else-bad_store+then-top-rec w ↦
+          sym (ten_progress xs rec (tested xs rec _ _ _ c.limit-top.ensures c.bad_store.ensures w.if-bad_store.false)
+          (omega (arith, w.if-top-rec.true, c.limit-top.ensures)))
+    ]
 
 pub wrong_rest-requires : goal.wrong_rest-requires
 wrong_rest-requires c =

@@ -9,18 +9,20 @@ use Rattle.pooling.specs.Pool.{count_at, limit_at, sum, any_below, claim_at, cla
 use Rattle.pooling.specs.Share.{is_past_limit}
 use Rattle.pooling.proofs.Sums.{sum-within, some_any}
 use Rattle.sharing.proofs.inner.settings.bad_claims.Goals as goal
+use Rattle.sharing.proofs.inner.settings.bad_claims.Goals.{then-pool-k-via-then-pool-k, then-pool-k-via-else-pool-k+then-slots-sum}
 
 pub returns-then-pool-k : goal.returns-then-pool-k
 returns-then-pool-k c =
-    let p : Pool = c.args.pool in
-    let k : limit_at p c.loop-k.k < count_at p c.loop-k.k = omega (arith, c.if-pool-k.true) in
-    rw (some_any (is_past_limit p) c.loop-k.k p.used c.loop-k-test.true (lt-ltb _ _ k))
-
-pub returns-then-slots-sum : goal.returns-then-slots-sum
-returns-then-slots-sum c =
-    let p : Pool = c.args.pool in
-    let w : sum (claim_at p) c.loop-k.k + claim_at p c.loop-k.k ≤ claimed p = sum-within (claim_at p) c.loop-k.k p.used c.loop-k-test.true in
-    let e : c.loop-k.sum ≡ sum (claim_at p) c.loop-k.k = c.loop-k.invariant.1.1.0 in
-    let m : c.claim-more.result ≡ claim_at p c.loop-k.k = c.claim-more.ensures in
-    let k : c.args.slots < claimed p = omega (arith, c.if-slots-sum.true, w, e, m, c.loop-k.invariant.1.1.1.0) in
-    rw (lt-ltb _ _ k) (sym (or_true (any_below (is_past_limit p) p.used)))
+    elim c.then-pool-k.branch [
+      | then-pool-k-via-then-pool-k w ↦
+          let p : Pool = c.args.pool in
+          let k : limit_at p c.loop-k.k < count_at p c.loop-k.k = omega (arith, w.if-pool-k.true) in
+          rw (some_any (is_past_limit p) c.loop-k.k p.used c.loop-k-test.true (lt-ltb _ _ k))
+      | then-pool-k-via-else-pool-k+then-slots-sum w ↦
+          let p : Pool = c.args.pool in
+          let t : sum (claim_at p) c.loop-k.k + claim_at p c.loop-k.k ≤ claimed p = sum-within (claim_at p) c.loop-k.k p.used c.loop-k-test.true in
+          let e : c.loop-k.sum ≡ sum (claim_at p) c.loop-k.k = c.loop-k.invariant.0 in
+          let m : c.claim-more.result ≡ claim_at p c.loop-k.k = c.claim-more.ensures in
+          let k : c.args.slots < claimed p = omega (arith, w.if-slots-sum.true, t, e, m, c.loop-k.invariant.1.0) in
+          rw (lt-ltb _ _ k) (sym (or_true (any_below (is_past_limit p) p.used)))
+    ]

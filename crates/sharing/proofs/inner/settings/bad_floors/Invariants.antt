@@ -1,12 +1,9 @@
 -- `bad_floors` meets its contract: the floors so far are within their limits, and their sum within the slots.
-use Prim.Native.Nat.{◌-◌, ◌≤◌}
+use Prim.Native.Nat.{◌≤◌}
 use mathlib.Core.Path.{◌≡◌}
 use mathlib.Core.Bool.{false}
-use Rattle.pooling.specs.Pool.{most_transfers, floor_at, sum, any_below, is_floor_above}
+use Rattle.pooling.specs.Pool.{floor_at, sum, any_below, is_floor_above}
 use Rattle.sharing.proofs.inner.settings.bad_floors.Given as goal
 
 abbrev pub invariant-loop-k : goal.invariant-loop-k
-invariant-loop-k l = (l.k ≤ l.used) × ((l.used ≤ most_transfers) × ((l.sum ≡ sum (floor_at l.pool) l.k) × ((l.sum ≤ l.slots) × (any_below (is_floor_above l.pool) l.k ≡ false))))
-
-abbrev pub decreases-loop-k : goal.decreases-loop-k
-decreases-loop-k l = l.used - l.k
+invariant-loop-k l = (l.sum ≡ sum (floor_at l.pool) l.k) × ((l.sum ≤ l.slots) × (any_below (is_floor_above l.pool) l.k ≡ false))

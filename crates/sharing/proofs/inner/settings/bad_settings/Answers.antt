@@ -7,6 +7,6 @@ pub returns-then-pool-gt-MOST_TRANSFERS : goal.returns-then-pool-gt-MOST_TRANSFE
 unfolding is_bad_settings
 returns-then-pool-gt-MOST_TRANSFERS c = rw (lt-ltb most_transfers _ c.if-pool-gt-MOST_TRANSFERS.true)
 
-pub returns : goal.returns
+pub returns-else-pool-gt-MOST_TRANSFERS : goal.returns-else-pool-gt-MOST_TRANSFERS
 unfolding is_bad_settings
-returns c = rw (le-ltb most_transfers _ c.if-pool-gt-MOST_TRANSFERS.false) c.bad_floors.ensures
+returns-else-pool-gt-MOST_TRANSFERS c = rw (le-ltb most_transfers _ c.if-pool-gt-MOST_TRANSFERS.false) c.bad_floors.ensures

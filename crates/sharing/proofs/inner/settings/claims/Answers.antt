@@ -12,4 +12,4 @@ overflow_add-sum c =
     let p : Pool = c.args.pool in
     let w : sum (claim_at p) c.loop-k.k + claim_at p c.loop-k.k ≤ claimed p = sum-within (claim_at p) c.loop-k.k p.used c.loop-k-test.true in
     let m : c.claim-sum.result ≡ claim_at p c.loop-k.k = c.claim-sum.ensures in
-    omega (arith, w, m, c.loop-k.invariant.1.1, c.requires.1)
+    omega (arith, w, m, c.loop-k.invariant, c.requires.1)

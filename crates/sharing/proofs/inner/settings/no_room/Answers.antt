@@ -7,10 +7,10 @@ pub returns-then-pool-i : goal.returns-then-pool-i
 unfolding is_no_room
 returns-then-pool-i c = rw (lt-ltb _ _ c.if-pool-i.true)
 
-pub returns-then-held-pool : goal.returns-then-held-pool
+pub returns-then-pool-i-2 : goal.returns-then-pool-i-2
 unfolding is_no_room
-returns-then-held-pool c = rw (le-ltb _ _ c.if-pool-i.false, lt-leb _ _ c.if-held-pool.true)
+returns-then-pool-i-2 c = rw (le-ltb _ _ c.if-pool-i.false, le-leb _ _ c.if-pool-i-2.true, c.claims.ensures)
 
-pub returns : goal.returns
+pub returns-else-pool-i-2 : goal.returns-else-pool-i-2
 unfolding is_no_room
-returns c = rw (le-ltb _ _ c.if-pool-i.false, le-leb _ _ c.if-held-pool.false, c.claims.ensures)
+returns-else-pool-i-2 c = rw (le-ltb _ _ c.if-pool-i.false, lt-leb _ _ c.if-pool-i-2.false)

@@ -1,0 +1,50 @@
+// Why a line has no answer of its own.
+use answers::refusal::carried;
+use console_text::inner::print::Numbers;
+use console_text::inner::words::BadWord;
+use outcomes::{Refusal, Told};
+use std::fmt::{Display, Formatter};
+use std::{fmt, io};
+
+#[derive(Drop)]
+pub enum Failure {
+    // The line can't be taken.
+    BadLine,
+    // The call refused.
+    Refused(Refused),
+    // The answer could not be written.
+    Unwritten(io::Error),
+}
+
+pub type Answered = Result<(), Failure>;
+
+impl From<BadWord> for Failure {
+    fn from(_: BadWord) -> Failure {
+        Failure::BadLine
+    }
+}
+
+impl From<Refusal> for Failure {
+    fn from(refusal: Refusal) -> Failure {
+        Failure::Refused(Refused(refusal))
+    }
+}
+
+impl From<io::Error> for Failure {
+    fn from(error: io::Error) -> Failure {
+        Failure::Unwritten(error)
+    }
+}
+
+// A refusal, shown as its number and the values that a refusal of this number carries.
+#[derive(Clone, Copy)]
+pub struct Refused(pub Refusal);
+
+impl Display for Refused {
+    fn fmt<W: fmt::Write>(&self, f: &mut Formatter<W>) -> fmt::Result {
+        let told = Told::from(self.0);
+        let values = [told.first, told.second, told.third];
+        let carried = carried(told.number).min(values.len());
+        write!(f, "refused {}{}", told.number, Numbers(&values[..carried]))
+    }
+}

@@ -1,9 +1,0 @@
--- `console_text::inner::words::number` is safe and ends.
-use Rattle.std.proofs.Common.{length, ◌≤◌, ◌-◌}
-use Rattle.console_text.proofs.inner.words.number.Given as goal
-
-abbrev pub invariant-loop-i : goal.invariant-loop-i
-invariant-loop-i l = l.i ≤ length l.word
-
-abbrev pub decreases-loop-i : goal.decreases-loop-i
-decreases-loop-i l = length l.word - l.i

@@ -1,9 +1,0 @@
--- `console_text::inner::words::same` is safe and ends.
-use Rattle.std.proofs.Common.{length, ◌≤◌, ◌≡◌, ◌-◌}
-use Rattle.console_text.proofs.inner.words.same.Given as goal
-
-abbrev pub invariant-loop-i : goal.invariant-loop-i
-invariant-loop-i l = (l.i ≤ length l.a) × (length l.a ≡ length l.b)
-
-abbrev pub decreases-loop-i : goal.decreases-loop-i
-decreases-loop-i l = length l.a - l.i
