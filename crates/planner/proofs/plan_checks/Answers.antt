@@ -23,7 +23,9 @@ pub returns-in_err-record_checks : goal.returns-in_err-record_checks
 returns-in_err-record_checks c =
     let fault : verdict_case c.record_checks.result ≡ first_of (record_checks (c.args.rec) (c.args.list.now)) (accepted []) = c.record_checks.ensures in
     let r : Refusal = c.in_err-record_checks.field-0.0 in
-    handed_on nothing c.from_residual.result r c.from_residual.ensures.1 ∙ refused_record (c.args.list.now) (c.args.rec) r ((let a = c.args in proposal_checks a.identity ((let a = c.args in plan a.edition a.lengths.now a.buf.now)) a.given)) (accepted [])
+    let a = c.args in
+    let rest = proposal_checks a.identity (plan a.edition a.lengths.now a.buf.now) a.given in
+    handed_on nothing c.from_residual.result r c.from_residual.ensures.1 ∙ refused_record a.list.now a.rec r rest (accepted [])
     (ap verdict_case (sym c.in_err-record_checks.was) ∙ fault)
 
 pub returns-then-bad_identity : goal.returns-then-bad_identity

@@ -17,4 +17,5 @@ returns-in_default c =
 pub returns : goal.returns
 returns c =
     let a = c.args in
-    λ f g. lost-lowers a.rec a.list.now a.offset a.length f g c.if-rec.false c.held.result _ (rw c.in-Some.ensures.1 at c.held.ensures) (MatchResult-weaker c.held.result c.is_ok_and.ensures (λ kept p. search rules) (λ q p. p))
+    λ f g. lost-lowers a.rec a.list.now a.offset a.length f g c.if-rec.false c.held.result _ (rw c.in-Some.ensures.1 at c.held.ensures)
+    (MatchResult-weaker c.held.result c.is_ok_and.ensures (λ kept p. search rules) (λ q p. p))

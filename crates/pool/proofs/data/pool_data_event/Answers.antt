@@ -92,7 +92,10 @@ place-place-requires-clause-sums c =
     let a = c.args in let n = known a.pool.now a.list.now a.i a.offset a.length c.in_ok-pool_data_checks.ensures in (n.ends, (n.all, n.claims))
 
 pub overflow_add-end : goal.overflow_add-end
-overflow_add-end c = let a = c.args in let k = fine a.pool.now a.list.now a.i a.offset a.length c.in_ok-pool_data_checks.ensures in omega (arith, ltb-false largest_number (a.offset + a.length) k.short)
+overflow_add-end c =
+    let a = c.args in
+    let k = fine a.pool.now a.list.now a.i a.offset a.length c.in_ok-pool_data_checks.ensures in
+    omega (arith, ltb-false largest_number (a.offset + a.length) k.short)
 
 pub change_in-left-requires : goal.change_in-left-requires
 change_in-left-requires c =
