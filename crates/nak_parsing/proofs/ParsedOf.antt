@@ -1,5 +1,5 @@
 -- What is handed back of a packet, accepted or refused; the places of its requests.
-use mathlib.Core.Path.{◌≡◌, refl, ap}
+use mathlib.Core.Path.{◌≡◌, refl, sym, ap, ◌∙◌}
 use mathlib.Core.Bool.{Bool, true, false}
 use mathlib.Core.List.{List, []}
 use Prim.Native.Nat.{ℕ, ◌+◌, ◌-◌, ◌≤◌, ◌<◌}
@@ -8,6 +8,7 @@ use lib.Dec.{eqb}
 use lib.ListN.{length, take, drop}
 use borrow.Author.Tests.{eqb-true, eqb-false, ne_eqb, lt-ltb}
 use denote.Ref.{Bor}
+use Rattle.std.specs.Prelude.{Result, Ok, Err, IfOk}
 use Rattle.outcomes.specs.Outcome.{accepted, lent}
 use Rattle.ranges.specs.Range.{Range, range}
 use Rattle.nak.specs.declared.Edition.{Edition}
@@ -17,8 +18,9 @@ use Rattle.nak_parsing.specs.declared.Said.{Said}
 use Rattle.outcomes.specs.declared.Refusal.TheVariants as refusal
 use Rattle.outcomes.specs.Refusal.{refusing}
 use Rattle.outcomes.specs.declared.Refusal.{Refusal}
-use Rattle.outcomes.proofs.Refusals.{refuses}
-use Rattle.nak_parsing.specs.Parser.{packet_form, packet_identity, scope_in, requests_at, requests_end, read_outcome, said_in, parsed_with, accepted_parsed, refused_parsed, parsed_of}
+use Rattle.outcomes.specs.Answered.{answered}
+use Rattle.outcomes.proofs.Refusals.{refuses, no_refusal, one-refusal}
+use Rattle.nak_parsing.specs.Parser.{packet_form, packet_identity, scope_in, requests_at, requests_end, read_outcome, said_in, nothing_of, parsed_with, accepted_parsed, refused_parsed, parsed_of}
 use Rattle.nak_parsing.specs.Parser.{requests_part, requests_ptr}
 use Rattle.nak_parsing.proofs.Reading.{read_of}
 use Rattle.nak_parsing.proofs.OctetsBack.{requests-in}
@@ -90,3 +92,14 @@ part-of v p = part_if v p (eqb (read_outcome v p).number 0) refl
 -- and where it lies in the caller's memory
 pub part_ptr : (v : Edition) (p : Bor (List ℕ)) → (p.ref_ptr.0, (parsed_of v p.now).from + p.ref_ptr.1) ≡ requests_ptr v p
 part_ptr v p = ap (λ (n : ℕ). (p.ref_ptr.0, n + p.ref_ptr.1)) (part-of v p.now).from
+
+-- The statement of `read_pdu` allows one answer: what an accepted packet says is given whole.
+pub one-said :
+    (v : Edition) (p : List ℕ) (r s : Result Said Refusal)
+    → (answered nothing_of r ≡ read_outcome v p) × IfOk r (λ x. x ≡ said_in v p)
+    → (answered nothing_of s ≡ read_outcome v p) × IfOk s (λ x. x ≡ said_in v p)
+    → r ≡ s
+one-said v p (Ok a) (Ok b) x y = ap Ok (x.1 ∙ sym y.1)
+one-said v p (Ok a) (Err t) x y = absurd (no_refusal t (y.0 ∙ sym x.0))
+one-said v p (Err t) (Ok b) x y = absurd (no_refusal t (x.0 ∙ sym y.0))
+one-said v p (Err t) (Err u) x y = ap Err (one-refusal t u (x.0 ∙ sym y.0))

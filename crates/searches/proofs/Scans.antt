@@ -1,33 +1,26 @@
 -- What the library's walks over a flat list or over its pairs say in words of ranges.
 use mathlib.Core.Path.{◌≡◌, refl, sym, ap, ◌∙◌}
-use mathlib.Core.Bool.{Bool, true, false, not, and-false}
-use Rattle.std.proofs.Math.Bool.{and_assoc}
+use mathlib.Core.Bool.{Bool, true, false, not}
 use mathlib.Core.List.{List, [], ◌∷◌, map}
-use Prim.Native.Nat.{ℕ, zero, suc, ◌+◌, ◌*◌, ◌-◌, ◌≤◌, ◌<◌}
+use Prim.Native.Nat.{ℕ, zero, suc, ◌-◌, ◌≤◌, ◌<◌}
 use native.Mathlib.Numerals.{add-one}
 use native.Mathlib.Omega.{arith}
-use lib.Dec.{leb, ltb, leb-zero}
+use lib.Dec.{leb, ltb}
 use lib.ListN.{length, get_or, take, drop, length-map}
 use borrow.Author.Tests.{leb-true, leb-false, lt-ltb, le-ltb}
-use Rattle.std.specs.Prelude.{◌&&◌, ◌||◌}
-use Rattle.std.specs.List.{list_any, AllAdjacentBelow, IsAllAdjacentAnswer}
+use Rattle.std.specs.Prelude.{◌||◌}
+use Rattle.std.specs.List.{list_any, AllAdjacentBelow}
 use Rattle.std.specs.List.Sorted.{IsPartitionPoint, IsNonDecreasingBy}
 use Rattle.std.proofs.lemmas.List.Sorted.{IsNonDecreasingBy-from_all_adjacent}
 use Rattle.std.proofs.lemmas.List.{get_or-map, take_rest, drop-map}
-use Rattle.ranges.specs.Range.{Range, range, Above, is_above, some, inside, place, range_at, last_end}
-use Rattle.ranges.specs.Store.{any_above, flat, counted}
-use Rattle.ranges.proofs.Flat.{flat-counted}
+use Rattle.ranges.specs.Range.{Range, range, Above, place, range_at, last_end}
+use Rattle.ranges.specs.Store.{any_above}
 use Rattle.lists.specs.Pairs.{pair_of}
 
 -- some number is above top
 pub any-above : (top : ℕ) (xs : List ℕ) → list_any (λ x. ltb top x) xs ≡ any_above top xs
 any-above top [] = refl
 any-above top (x ∷ xs) = ap (λ (b : Bool). ltb top x || b) (any-above top xs)
-
--- some pair holds (a, b)
-pub any-holds : (a b : ℕ) (rs : List Range) → list_any (λ p. leb (get_or p 0 0) a && leb b (get_or p 1 0)) (map pair_of rs) ≡ some (inside a b) rs
-any-holds a b [] = refl
-any-holds a b (r ∷ rs) = ap (λ (t : Bool). inside a b r || t) (any-holds a b rs)
 
 -- the place of the first range that passes
 place-is : (t : Range → Bool) (rs : List Range) (i : ℕ) → i ≤ length rs → ((k : ℕ) → k < i → t (range_at rs k) ≡ false) → (i < length rs → t (range_at rs i) ≡ true) → i ≡ place t rs
@@ -60,41 +53,6 @@ last-pair (r ∷ []) h = refl
 last-pair (r ∷ q ∷ rs) h =
     let e : length (map pair_of (r ∷ q ∷ rs)) - 1 ≡ suc (length (map pair_of (q ∷ rs)) - 1) = omega arith in
     rw e (last-pair (q ∷ rs) (omega arith))
-
--- each number is above the one before it
-abbrev rising : List ℕ → Bool
-rising [] = true
-rising (x ∷ []) = true
-rising (x ∷ y ∷ xs) = ltb x y && rising (y ∷ xs)
-
-rising-answer : (xs : List ℕ) (r : Bool) → IsAllAdjacentAnswer (λ x y b. b ≡ ltb x y) xs r → r ≡ rising xs
-rising-answer xs true h = all xs h
-  where
-    all : (xs : List ℕ) → AllAdjacentBelow (λ x y. true ≡ ltb x y) xs (length xs) → true ≡ rising xs
-    all [] h = refl
-    all (x ∷ []) h = refl
-    all (x ∷ y ∷ xs) h = rw (← h 0 0 (omega arith)) (all (y ∷ xs) (λ k d l. rw (add-one k) (rw (add-one (suc k)) at (h (suc k) d (omega arith)))))
-rising-answer xs false (k, l, h) = some xs k l h
-  where
-    some : (xs : List ℕ) (k : ℕ) → k + 1 < length xs → ((d : ℕ) → false ≡ ltb (get_or xs k d) (get_or xs (k + 1) d)) → false ≡ rising xs
-    some [] k l h = absurd (omega arith)
-    some (x ∷ []) k l h = absurd (omega arith)
-    some (x ∷ y ∷ xs) zero l h = rw (← h 0) refl
-    some (x ∷ y ∷ xs) (suc k) l h =
-        sym (and-false (ltb x y)) ∙ ap (λ (b : Bool). ltb x y && b) (some (y ∷ xs) k (omega arith) (λ d. rw (add-one k) (rw (add-one (suc k)) at (h d))))
-
--- behind an end, the numbers rise exactly if the ranges lie above it
-rising-behind : (e : ℕ) (rs : List Range) → rising (e ∷ flat rs) ≡ is_above (suc e) rs
-rising-behind e [] = refl
-rising-behind e (r ∷ rs) = ap (λ (b : Bool). ltb e r.start && (ltb r.start r.end && b)) (rising-behind r.end rs) ∙ sym (and_assoc (ltb e r.start) (ltb r.start r.end) (is_above (suc r.end) rs))
-
-rising-flat : (rs : List Range) → rising (flat rs) ≡ is_above 0 rs
-rising-flat [] = refl
-rising-flat (r ∷ rs) = rw (leb-zero r.start) (ap (λ (b : Bool). ltb r.start r.end && b) (rising-behind r.end rs))
-
--- the answer over the numbers of n pairs
-pub coalesced-answer : (xs : List ℕ) (n : ℕ) (r : Bool) → 2 * n ≤ length xs → IsAllAdjacentAnswer (λ x y b. b ≡ ltb x y) (take (2 * n) xs) r → r ≡ is_above 0 (counted xs n)
-coalesced-answer xs n r k h = rising-answer (take (2 * n) xs) r h ∙ ap rising (sym (flat-counted xs n k)) ∙ rising-flat (counted xs n)
 
 pub ends_ascend : (b : ℕ) (rs : List Range) → Above b rs → IsNonDecreasingBy (λ p. get_or p 1 0) (map pair_of rs)
 ends_ascend b rs a = IsNonDecreasingBy-from_all_adjacent (λ p. get_or p 1 0) (map pair_of rs) (rises (λ p. get_or p 1 0) (λ r q s t u. omega arith) b rs a)

@@ -34,14 +34,14 @@ fn cell_start(total: u64, cells: u64, i: u64) -> u64
 }
 
 // `#` where each octet was kept, `.` where each is missing, `+` where both are there.
-fn mark(rec: Reception, list: &[u64], from: u64, to: u64) -> char {
+fn mark(rec: Reception, list: &[u64], from: u64, to: u64) -> u8 {
     if held(rec, list, from, to) == Ok(true) {
-        return '#';
+        return b'#';
     }
     if segment_in_store(store_of(rec), list, from, to) == Ok(true) {
-        return '.';
+        return b'.';
     }
-    '+'
+    b'+'
 }
 
 // The marks of a record whose checks are made, up to the size where it is known, and else up to progress. The file has no fewer octets
@@ -53,7 +53,7 @@ pub fn draw(rec: Reception, list: &[u64], asked: u64, out: &mut Output) -> Answe
     let mut from = 0;
     for i in 1..=cells {
         let to = cell_start(total, cells, i);
-        write!(out, "{}", mark(rec, list, from, to))?;
+        out.write_all(&[mark(rec, list, from, to)])?;
         from = to;
     }
     Ok(writeln!(out)?)

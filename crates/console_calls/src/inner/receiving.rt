@@ -1,4 +1,5 @@
 // The reception events. Where there is a timer, each goes to it too.
+use answers::numbers::Numbers;
 use console_state::inner::failure::Answered;
 use console_state::inner::state::State;
 use console_text::inner::print::Output;
@@ -20,9 +21,9 @@ fn show_event(done: &str, rec: Reception, out: &mut Output) -> Answered {
 }
 
 pub fn show_data(done: Received, rec: Reception, out: &mut Output) -> Answered {
-    let word = match done {
-        Received::Noticed => "noticed",
-        Received::Kept => "kept",
+    let word = match done.in_numbers().first {
+        0 => "noticed",
+        _ => "kept",
     };
     show_event(word, rec, out)
 }

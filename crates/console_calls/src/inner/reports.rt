@@ -1,4 +1,5 @@
 // What a report asks: held and missing.
+use answers::numbers::Numbers;
 use console_state::inner::failure::Answered;
 use console_state::inner::state::State;
 use console_text::inner::print::Output;
@@ -11,9 +12,13 @@ pub fn held(s: &State, words: &mut Words, out: &mut Output) -> Answered {
     show_whether(report::held::held(s.rec, s.lent(), start, end)?, out)
 }
 
-// A yes or a no.
+// A yes or a no, by its number.
 pub fn show_whether(yes: bool, out: &mut Output) -> Answered {
-    Ok(writeln!(out, "{}", if yes { "yes" } else { "no" })?)
+    let word = match yes.in_numbers().first {
+        0 => "no",
+        _ => "yes",
+    };
+    Ok(writeln!(out, "{word}")?)
 }
 
 pub fn missing(s: &State, words: &mut Words, out: &mut Output) -> Answered {
@@ -22,5 +27,5 @@ pub fn missing(s: &State, words: &mut Words, out: &mut Output) -> Answered {
 }
 
 pub fn show_missing(octets: u64, out: &mut Output) -> Answered {
-    Ok(writeln!(out, "missing {octets}")?)
+    Ok(writeln!(out, "missing {}", octets.in_numbers().first)?)
 }

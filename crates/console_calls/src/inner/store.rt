@@ -1,5 +1,6 @@
 // The store's calls.
 use crate::inner::reports::show_whether;
+use answers::numbers::Numbers;
 use console_state::inner::failure::{Answered, Failure};
 use console_state::inner::marks::Mark;
 use console_state::inner::state::{Room, State};
@@ -10,7 +11,6 @@ use lost_segments::write_segments_to_bytes::write_segments_to_bytes;
 use octets::LargeFileFlag;
 use reception::Reception;
 use segment_store::Store;
-use segment_store::remove::Removed;
 use std::io::Write;
 
 pub fn store_of(rec: Reception) -> Store {
@@ -21,44 +21,46 @@ pub fn store_of(rec: Reception) -> Store {
 }
 
 // An accepted change: the new count is kept, and told behind what was done.
-fn changed(s: &mut State, done: &str, count: usize, out: &mut Output) -> Answered {
-    s.rec.count = count;
+fn changed(s: &mut State, done: &str, count: u64, out: &mut Output) -> Answered {
+    s.rec.count = count as usize;
     Ok(writeln!(out, "{done} {count}")?)
 }
 
 pub fn add(s: &mut State, words: &mut Words, out: &mut Output) -> Answered {
     let (start, end) = words.pair()?;
     let st = store_of(s.rec);
-    let count = lost_segments::add::add(st, s.lent_mut(), start, end)?;
-    changed(s, "added", count, out)
+    let added = lost_segments::add::add(st, s.lent_mut(), start, end)?.in_numbers();
+    changed(s, "added", added.first, out)
 }
 
 pub fn remove(s: &mut State, words: &mut Words, out: &mut Output) -> Answered {
     let (start, end) = words.pair()?;
     let st = store_of(s.rec);
-    let (part, index, count) = match lost_segments::remove::remove(st, s.lent_mut(), start, end)? {
-        Removed::NotStored(count) => return changed(s, "removed none", count, out),
-        Removed::Whole(index, count) => ("whole", index, count),
-        Removed::Left(index, count) => ("left", index, count),
-        Removed::Right(index, count) => ("right", index, count),
-        Removed::Split(index, count) => ("split", index, count),
+    let removed = lost_segments::remove::remove(st, s.lent_mut(), start, end)?.in_numbers();
+    let (index, count) = (removed.second, removed.third);
+    let part = match removed.first {
+        0 => return changed(s, "removed none", count, out),
+        1 => "whole",
+        2 => "left",
+        3 => "right",
+        _ => "split",
     };
-    s.rec.count = count;
+    s.rec.count = count as usize;
     Ok(writeln!(out, "removed {part} {index} {count}")?)
 }
 
 pub fn coalesce(s: &mut State, words: &mut Words, out: &mut Output) -> Answered {
     words.end()?;
     let st = store_of(s.rec);
-    let count = lost_segments::coalesce::coalesce(st, s.lent_mut())?;
-    changed(s, "coalesced", count, out)
+    let coalesced = lost_segments::coalesce::coalesce(st, s.lent_mut())?.in_numbers();
+    changed(s, "coalesced", coalesced.first, out)
 }
 
 pub fn insert(s: &mut State, words: &mut Words, out: &mut Output) -> Answered {
     let (start, end) = words.pair()?;
     let st = store_of(s.rec);
-    let count = lost_segments::insert::insert(st, s.lent_mut(), start, end)?;
-    changed(s, "inserted", count, out)
+    let inserted = lost_segments::insert::insert(st, s.lent_mut(), start, end)?.in_numbers();
+    changed(s, "inserted", inserted.first, out)
 }
 
 pub fn within(s: &State, words: &mut Words, out: &mut Output) -> Answered {

@@ -1,15 +1,17 @@
 // NAK PDUs: written, read, and the sequence.
 ghost use Rattle.std.specs.Prelude.{◌≤◌, length};
 
-use console_state::inner::failure::{Answered, Failure};
+use answers::PusmarkeAnswer;
+use answers::numbers::Numbers;
+use console_state::inner::failure::{Answered, Failure, Refused};
 use console_state::inner::marks::{Mark, Trailer};
 use console_state::inner::state::{Link, Room, State};
 use console_text::inner::print::{Hex, Output};
 use console_text::inner::words::{BadWord, Words};
 use nak::{Edition, Form, Identity};
-use nak_parser::{read_pdu, requests};
-use nak_parsing::Said;
-use nak_reader::step_from;
+use nak_parser::requests;
+use nak_parsing::Parsed;
+use nak_reader::{read_fields, step_from};
 use nak_shape::inner::header_in;
 use octets::LargeFileFlag;
 use sequence::{Order, Sent};
@@ -64,8 +66,8 @@ fn show_identity(identity: Identity, out: &mut Output) -> Answered {
 }
 
 // Steps the reader from a place to its end; the part that holds the requests has more octets than they are.
-fn show_requests(packet: &[u8], said: Said, out: &mut Output) -> Answered {
-    let mut at = said.from;
+fn show_requests(packet: &[u8], said: Parsed, out: &mut Output) -> Answered {
+    let mut at = said.next;
     for _ in requests(packet, said.form.edition) {
         let found = step_from(packet, at);
         let Some((start, end)) = found.step else {
@@ -77,10 +79,24 @@ fn show_requests(packet: &[u8], said: Said, out: &mut Output) -> Answered {
     Ok(writeln!(out)?)
 }
 
+// What the reader says of a packet, or its refusal, which the reader gives in numbers.
+fn said_of(packet: &[u8], edition: Edition) -> Result<Parsed, Failure> {
+    let said = read_fields(packet, edition);
+    if said.refusal == 0 {
+        return Ok(said);
+    }
+    Err(Failure::Refused(Refused(PusmarkeAnswer {
+        refusal: said.refusal,
+        first: said.start,
+        second: said.end,
+        third: 0,
+    })))
+}
+
 // read: what a packet says, and its requests.
 pub fn read(s: &State, words: &mut Words, room: &mut Room, out: &mut Output) -> Answered {
     let packet = words.octets(&mut room.octets)?;
-    let said = read_pdu(packet, s.link.edition)?;
+    let said = said_of(packet, s.link.edition)?;
     let trailer = if said.form.crc {
         Trailer::Crc
     } else {
@@ -142,13 +158,14 @@ fn pdu_length(octets: &[u8], edition: Edition) -> usize
 
 // A line for each PDU that was written, and then how many there are, their octets and the new cursor.
 pub fn show_sent(sent: Sent, written: &[u8], edition: Edition, out: &mut Output) -> Answered {
+    let told = sent.in_numbers();
     let mut rest = &written[..written.len().min(sent.octets)];
     for _ in 0..sent.pdus {
         let (pdu, others) = rest.split_at(pdu_length(rest, edition));
         writeln!(out, "pdu {}", Hex(pdu))?;
         rest = others;
     }
-    Ok(writeln!(out, "sent {} {} {}", sent.pdus, sent.octets, sent.cursor)?)
+    Ok(writeln!(out, "sent {} {} {}", told.first, told.second, told.third)?)
 }
 
 pub fn sequence(s: &State, words: &mut Words, room: &mut Room, out: &mut Output) -> Answered {

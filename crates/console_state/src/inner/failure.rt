@@ -1,8 +1,9 @@
 // Why a line has no answer of its own.
+use answers::PusmarkeAnswer;
 use answers::refusal::carried;
 use console_text::inner::print::Numbers;
 use console_text::inner::words::BadWord;
-use outcomes::{Refusal, Told};
+use outcomes::Refusal;
 use std::fmt::{Display, Formatter};
 use std::{fmt, io};
 
@@ -26,7 +27,7 @@ impl From<BadWord> for Failure {
 
 impl From<Refusal> for Failure {
     fn from(refusal: Refusal) -> Failure {
-        Failure::Refused(Refused(refusal))
+        Failure::Refused(Refused(PusmarkeAnswer::from(refusal)))
     }
 }
 
@@ -36,15 +37,20 @@ impl From<io::Error> for Failure {
     }
 }
 
-// A refusal, shown as its number and the values that a refusal of this number carries.
+// A refusal in numbers, shown as its own and the values that a refusal of this number carries.
 #[derive(Clone, Copy)]
-pub struct Refused(pub Refusal);
+pub struct Refused(pub PusmarkeAnswer);
 
 impl Display for Refused {
     fn fmt<W: fmt::Write>(&self, f: &mut Formatter<W>) -> fmt::Result {
-        let told = Told::from(self.0);
-        let values = [told.first, told.second, told.third];
-        let carried = carried(told.number).min(values.len());
-        write!(f, "refused {}{}", told.number, Numbers(&values[..carried]))
+        let answer = self.0;
+        let values = [answer.first, answer.second, answer.third];
+        let carried = carried(answer.refusal).min(values.len());
+        write!(
+            f,
+            "refused {}{}",
+            answer.refusal,
+            Numbers(&values[..carried])
+        )
     }
 }

@@ -67,7 +67,7 @@ fn first_of(numbers: &mut [u64; MEMORY], n: usize) -> &mut [u64]
     &mut numbers[..n]
 }
 
-#[derive(Drop)]
+#[derive(Clone, Copy)]
 pub struct State {
     // Numbers, of which the first `length` are lent to every call as the list.
     pub memory: [u64; MEMORY],

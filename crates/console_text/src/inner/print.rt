@@ -1,5 +1,5 @@
 // What is printed: standard output behind a buffer of fixed size, and how lists are shown.
-ghost use Rattle.std.specs.Prelude.{◌≤◌};
+ghost use Rattle.std.specs.Prelude.{◌+◌, ◌≤◌};
 ghost use Rattle.console_text.specs.declared.inner.print.TheConstants.{CAPACITY};
 
 use std::fmt::{Display, Formatter};
@@ -39,6 +39,15 @@ impl Write for Output {
         Ok(n)
     }
 
+    // At once where the octets fit, as they mostly do. Where they don't, the buffer is full, and `write` writes it out before the next part.
+    fn write_all(&mut self, octets: &[u8]) -> io::Result<()> {
+        let n = self.write(octets)?;
+        for part in octets[n..].chunks(CAPACITY) {
+            self.write(part)?;
+        }
+        Ok(())
+    }
+
     fn flush(&mut self) -> io::Result<()> {
         self.to.write_all(&self.octets[..self.filled])?;
         self.filled = 0;
@@ -50,10 +59,32 @@ impl Write for Output {
 #[derive(Clone, Copy)]
 pub struct Hex<'a>(pub &'a [u8]);
 
+const DIGITS: &[u8; 16] = b"0123456789abcdef";
+
+// So many octets and so many numbers are shown at once: each by itself, by `{:02x}` and `{}`, takes several times as long.
+const OCTETS: usize = 128;
+
+const NUMBERS: usize = 12;
+
+// The digits of the first octets, as many as there is room for, and how many digits they are.
+fn put_digits(octets: &[u8], text: &mut [u8; 256]) -> usize
+    ensures { result ≤ 256 }
+{
+    let n = octets.len().min(OCTETS);
+    for i in 0..n {
+        text[2 * i] = DIGITS[usize::from(octets[i] / 16)];
+        text[2 * i + 1] = DIGITS[usize::from(octets[i] % 16)];
+    }
+    2 * n
+}
+
 impl Display for Hex<'_> {
     fn fmt<W: fmt::Write>(&self, f: &mut Formatter<W>) -> fmt::Result {
-        for octet in self.0 {
-            write!(f, "{octet:02x}")?;
+        for octets in self.0.chunks(OCTETS) {
+            let mut text = [0; 256];
+            let end = put_digits(octets, &mut text);
+            let digits = std::str::from_utf8(&text[..end]);
+            f.write_str(digits.map_err(|_| fmt::Error)?)?;
         }
         Ok(())
     }
@@ -63,10 +94,52 @@ impl Display for Hex<'_> {
 #[derive(Clone, Copy)]
 pub struct Numbers<'a>(pub &'a [u64]);
 
+// A space and the digits of a number, two at a time, put before `end`, and where they begin.
+fn put_number(number: u64, text: &mut [u8; 256], end: usize) -> usize
+    requires { (21 ≤ end) × (end ≤ 256) }
+    ensures { (end ≤ result + 21) × (result ≤ end) }
+{
+    let mut rest = number;
+    let mut at = end;
+    for _ in 0..10usize {
+        if rest < 10 {
+            at -= 1;
+            text[at] = DIGITS[rest as usize];
+            break;
+        }
+        let two = (rest % 100) as usize;
+        rest /= 100;
+        at -= 2;
+        text[at] = DIGITS[two / 10];
+        text[at + 1] = DIGITS[two % 10];
+        if rest == 0 {
+            break;
+        }
+    }
+    at -= 1;
+    text[at] = b' ';
+    at
+}
+
+// The first numbers, as many as there is room for, at the end of the text, and where they begin.
+fn put_numbers(numbers: &[u64], text: &mut [u8; 256]) -> usize
+    ensures { result ≤ 256 }
+{
+    let n = numbers.len().min(NUMBERS);
+    let mut at = 256;
+    for i in 0..n {
+        at = put_number(numbers[n - 1 - i], text, at);
+    }
+    at
+}
+
 impl Display for Numbers<'_> {
     fn fmt<W: fmt::Write>(&self, f: &mut Formatter<W>) -> fmt::Result {
-        for number in self.0 {
-            write!(f, " {number}")?;
+        for numbers in self.0.chunks(NUMBERS) {
+            let mut text = [0; 256];
+            let start = put_numbers(numbers, &mut text);
+            let digits = std::str::from_utf8(&text[start..]);
+            f.write_str(digits.map_err(|_| fmt::Error)?)?;
         }
         Ok(())
     }

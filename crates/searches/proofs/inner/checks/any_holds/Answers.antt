@@ -1,15 +1,26 @@
--- `any_holds` meets its contract: the pairs are the counted ranges.
-use Rattle.std.proofs.Common.{rules, tests, ◌∙◌, ◌&&◌, ℕ, Bool, List, map, leb, get_or}
-use Rattle.std.proofs.lemmas.Iterator.{YieldsList-from_slice}
-use Rattle.std.proofs.lemmas.Iterator.Search.{any_from_yields_List}
-use Rattle.ranges.specs.Store.{counted}
-use Rattle.lists.specs.Pairs.{pair_of}
-use Rattle.searches.proofs.Scans.{any-holds}
+-- `any_holds` meets its contract: the pairs from i on hold (a, b) exactly if this one does or those behind it do.
+use Rattle.std.proofs.Common.{arith, ◌≡◌, sym, ◌∙◌, true, false}
+use Rattle.ranges.specs.Range.{some, inside}
+use Rattle.ranges.proofs.Flat.{at, scan₂, drop-counted}
 use Rattle.searches.proofs.inner.checks.any_holds.Goals as goal
+
+pub returns-then-holds : goal.returns-then-holds
+returns-then-holds c =
+    let a = c.args in
+    let l = c.loop-i in
+    let s : inside a.a a.b (at a.list.now l.i) ≡ true = rw (sym c.start_at.ensures, sym c.end_at.ensures) (sym c.holds.ensures ∙ c.if-holds.true) in
+    sym (rw s at (scan₂ (some (inside a.a a.b)) a.list.now a.count l.i (omega arith) (omega arith))) ∙ l.invariant.1
+
+pub loop-i-preserved : goal.loop-i-preserved
+loop-i-preserved c =
+    let a = c.args in
+    let l = c.loop-i in
+    let s : inside a.a a.b (at a.list.now l.i) ≡ false = rw (sym c.start_at.ensures, sym c.end_at.ensures) (sym c.holds.ensures ∙ c.if-holds.false) in
+    (omega arith, sym (rw s at (scan₂ (some (inside a.a a.b)) a.list.now a.count l.i (omega arith) (omega arith))) ∙ l.invariant.1)
 
 pub returns : goal.returns
 returns c =
     let a = c.args in
-    let rs = counted a.list.now a.count in
-    let test : List ℕ → Bool = λ p. leb (get_or p 0 0) a.a && leb a.b (get_or p 1 0) in
-    any_from_yields_List test _ _ c.any.result c.any.ensures.ran (YieldsList-from_slice (map pair_of rs) cc) (λ x b q k. search (rules, tests)) ∙ any-holds a.a a.b rs
+    let l = c.loop-i in
+    let e : l.i ≡ a.count = omega arith in
+    rw (e, drop-counted a.list.now a.count (omega arith)) at l.invariant.1
