@@ -49,13 +49,15 @@ fn mark(rec: Reception, list: &[u64], from: u64, to: u64) -> u8 {
 pub fn draw(rec: Reception, list: &[u64], asked: u64, out: &mut Output) -> Answered {
     let total = if rec.sized { rec.size } else { rec.progress };
     let cells = asked.min(total).min(MOST_CELLS);
-    write!(out, "map ")?;
+    let mut marks = [0; 200];
     let mut from = 0;
-    for i in 1..=cells {
-        let to = cell_start(total, cells, i);
-        out.write_all(&[mark(rec, list, from, to)])?;
+    for i in 0..cells {
+        let to = cell_start(total, cells, i + 1);
+        marks[i as usize] = mark(rec, list, from, to);
         from = to;
     }
+    write!(out, "map ")?;
+    out.write_all(&marks[..cells as usize])?;
     Ok(writeln!(out)?)
 }
 
