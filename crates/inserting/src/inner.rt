@@ -1,5 +1,5 @@
 // Inner: a range put into a coalesced list. Each function asks for what its caller has checked.
-ghost use Rattle.std.specs.Prelude.{◌≡◌, suc, ◌*◌, ◌<◌, ◌≤◌, max, length};
+ghost use Rattle.std.specs.Prelude.{◌≡◌, suc, ◌*◌, ◌<◌, ◌≤◌, min, max, length};
 ghost use Rattle.ranges.specs.Range.{range, Coalesced, last_end};
 ghost use Rattle.ranges.specs.Store.{counted, most_numbers};
 ghost use Rattle.ranges.specs.Inner.Cut.{behind, cut_answer, cut_list};
@@ -10,6 +10,13 @@ use lists::inner::moves::replace;
 use lists::inner::pairs::{end_at, put_end, put_pair, start_at};
 use searches::inner::checks::last_end;
 use searches::inner::halving::{first_above, first_past};
+
+// The smaller of two numbers.
+fn smaller(a: u64, b: u64) -> u64
+    ensures { result ≡ min a b }
+{
+    a.min(b)
+}
 
 // The larger of two numbers.
 pub fn larger(a: u64, b: u64) -> u64
@@ -63,8 +70,8 @@ fn insert_between(list: &mut [u64], n: usize, s: u64, e: u64, room: usize) -> Op
         }
         return Some(replace(list, n, i, j, &[[s, e]]));
     }
-    let low = s.min(start_at(list, i));
-    let high = e.max(end_at(list, j - 1));
+    let low = smaller(s, start_at(list, i));
+    let high = larger(e, end_at(list, j - 1));
     Some(replace(list, n, i, j, &[[low, high]]))
 }
 

@@ -44,6 +44,6 @@ returns c =
     let q = run (goal.at.returns c).After-near_above-j in
     let less : i < j = omega (arith, q.before) in
     let w = in_room a.list.now a.n a.s a.e a.room i j q _ _ _ _
-    (joins a.list.now a.n a.s a.e a.room i j q less ∙ rw (c.min-low.ensures, c.start_at.ensures, c.max-high.ensures, c.end_at.ensures)) (omega (arith, q.counts))
+    (joins a.list.now a.n a.s a.e a.room i j q less ∙ rw (c.smaller-low.ensures, c.start_at.ensures, c.larger-high.ensures, c.end_at.ensures)) (omega (arith, q.counts))
     c.replace-2.ensures.value c.replace-2.ensures.list_after in
     record { value = w.0; list_after = w.1 }
